@@ -1,0 +1,67 @@
+-- The laws of writing into a buffer. Assumes nothing.
+use mathlib.Core.Path.{_≡_, refl, sym, ap, _∙_}
+use mathlib.Core.Bool.{true, false}
+use mathlib.Core.List.{List, [], _∷_, _++_, append-assoc}
+use Prim.Native.Nat.{ℕ, _+_, _*_, _≤_, _<_}
+use native.Mathlib.Numerals.{add-one}
+use native.Mathlib.Omega.{arith}
+use lib.ListN.{length, take, drop, set, length-append, length-take, length-drop}
+use lib.Seq.{set-split, length-take-le, take-append-seam, drop-append-add, drop-drop}
+use borrow.Author.Tests.{le-leb, lt-leb}
+use Rattle.bpg_codec.specs.Bits.{unpack}
+use Rattle.bpg_codec.specs.Buffer.{splice, fits, written, writtenEnd}
+use Rattle.bpg_codec.proofs.Select.{select-true, select-false}
+use Rattle.bpg_codec.proofs.Bits.{unpack-append, unpack-take, unpack-drop, length-unpack}
+
+module _ {S : Type 0} where
+  pub length-splice : (out : List S) (at : ℕ) (l : List S) → at + length l ≤ length out → length (splice out at l) ≡ length out
+  length-splice out at l h = simp (length-append, length-take, length-drop) (omega arith)
+
+  -- a front put onto a buffer, and then more after it
+  front : (out f l : List S) → splice (f ++ drop (length f) out) (length f) l ≡ (f ++ l) ++ drop (length (f ++ l)) out
+  front out f l = simp (take-append-seam, drop-append-add, drop-drop, append-assoc, length-append)
+
+  splice-front : (out : List S) (at : ℕ) (l : List S) → at ≤ length out → splice out at l ≡ (take at out ++ l) ++ drop (length (take at out ++ l)) out
+  splice-front out at l h = rw (length-append, length-take-le at out h, append-assoc)
+
+  -- two writes one after the other are one
+  pub splice-splice : (out : List S) (at : ℕ) (a b : List S) → at ≤ length out → splice (splice out at a) (at + length a) b ≡ splice out at (a ++ b)
+  splice-splice out at a b h =
+      let f = take at out ++ a in
+      let n : at + length a ≡ length f = sym (length-append (take at out) a ∙ ap (λ (k : ℕ). k + length a) (length-take-le at out h)) in
+      ap (λ (x : List S). splice x (at + length a) b) (splice-front out at a h)
+      ∙ ap (λ (k : ℕ). splice (f ++ drop (length f) out) k b) n
+      ∙ front out f b
+      ∙ ap (λ (x : List S). x ++ drop (length x) out) (append-assoc (take at out) a b)
+      ∙ sym (splice-front out at (a ++ b) h)
+
+  -- a store is a write of one
+  pub set-splice : (out : List S) (at : ℕ) (x : S) → at < length out → set out at x ≡ splice out at (x ∷ [])
+  set-splice out at x h = rw add-one (set-split out at x h)
+
+  module _ (out : List S) (at : ℕ) (l : List S) where
+    pub written-fits : at + length l ≤ length out → written out at l ≡ splice out at l
+    written-fits h = select-true _ _ (le-leb _ _ h)
+
+    pub written-not : length out < at + length l → written out at l ≡ out
+    written-not h = select-false _ _ (lt-leb _ _ h)
+
+    pub end-fits : at + length l ≤ length out → writtenEnd out at l ≡ at + length l
+    end-fits h = select-true _ _ (le-leb _ _ h)
+
+    pub end-not : length out < at + length l → writtenEnd out at l ≡ at
+    end-not h = select-false _ _ (lt-leb _ _ h)
+
+  pub written-written : (out : List S) (at : ℕ) (a b : List S) → at + length a + length b ≤ length out
+      → written (written out at a) (at + length a) b ≡ written out at (a ++ b)
+  written-written out at a b h =
+      rw (written-fits out at a (omega arith))
+      (written-fits (splice out at a) (at + length a) b (rw (length-splice out at a (omega arith)) h)
+      ∙ splice-splice out at a b (omega arith)
+      ∙ sym (written-fits out at (a ++ b) (rw length-append (omega arith))))
+
+-- a write of bytes, as one of their bits
+pub unpack-splice : (out : List ℕ) (at : ℕ) (l : List ℕ) → unpack (splice out at l) ≡ splice (unpack out) (8 * at) (unpack l)
+unpack-splice out at l =
+    let e : 8 * (at + length l) ≡ 8 * at + length (unpack l) = rw length-unpack (omega arith) in
+    rw (unpack-append, unpack-append, unpack-take, unpack-drop, e)
