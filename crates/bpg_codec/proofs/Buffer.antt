@@ -39,26 +39,21 @@ module _ {S : Type 0} where
   pub set-splice : (out : List S) (at : ℕ) (x : S) → at < length out → set out at x ≡ splice out at (x ∷ [])
   set-splice out at x h = rw add-one (set-split out at x h)
 
+  -- both answers of a write: what is in the buffer, and the offset after it
   module _ (out : List S) (at : ℕ) (l : List S) where
-    pub written-fits : at + length l ≤ length out → written out at l ≡ splice out at l
-    written-fits h = select-true _ _ (le-leb _ _ h)
+    pub stored : at + length l ≤ length out → (splice out at l ≡ written out at l) × (at + length l ≡ writtenEnd out at l)
+    stored h = (sym (select-true _ _ (le-leb _ _ h)), sym (select-true _ _ (le-leb _ _ h)))
 
-    pub written-not : length out < at + length l → written out at l ≡ out
-    written-not h = select-false _ _ (lt-leb _ _ h)
-
-    pub end-fits : at + length l ≤ length out → writtenEnd out at l ≡ at + length l
-    end-fits h = select-true _ _ (le-leb _ _ h)
-
-    pub end-not : length out < at + length l → writtenEnd out at l ≡ at
-    end-not h = select-false _ _ (lt-leb _ _ h)
+    pub refused : length out < at + length l → (out ≡ written out at l) × (at ≡ writtenEnd out at l)
+    refused h = (sym (select-false _ _ (lt-leb _ _ h)), sym (select-false _ _ (lt-leb _ _ h)))
 
   pub written-written : (out : List S) (at : ℕ) (a b : List S) → at + length a + length b ≤ length out
       → written (written out at a) (at + length a) b ≡ written out at (a ++ b)
   written-written out at a b h =
-      rw (written-fits out at a (omega arith))
-      (written-fits (splice out at a) (at + length a) b (rw (length-splice out at a (omega arith)) h)
+      rw (← stored out at a (omega arith) .0)
+      (sym (stored (splice out at a) (at + length a) b (rw (length-splice out at a (omega arith)) h) .0)
       ∙ splice-splice out at a b (omega arith)
-      ∙ sym (written-fits out at (a ++ b) (rw length-append (omega arith))))
+      ∙ stored out at (a ++ b) (rw length-append (omega arith)) .0)
 
 -- a write of bytes, as one of their bits
 pub unpack-splice : (out : List ℕ) (at : ℕ) (l : List ℕ) → unpack (splice out at l) ≡ splice (unpack out) (8 * at) (unpack l)

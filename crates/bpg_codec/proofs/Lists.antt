@@ -6,7 +6,7 @@ use native.Mathlib.Decide.{decLe}
 use native.Mathlib.Nat.{zero-add, lt-of-not-le}
 use native.Mathlib.Numerals.{add-one}
 use native.Mathlib.Omega.{arith}
-use lib.ListN.{length, take, drop, getD}
+use lib.ListN.{length, take, drop, getD, set}
 use lib.Seq.{drop-cons, take-nil, take-append-add, drop-append-add}
 
 -- one case or the other
@@ -20,6 +20,14 @@ module _ {A : Type 0} where
 
   pub take-past : (xs ys : List A) (n m : ℕ) → length xs ≡ n → take (n + m) (xs ++ ys) ≡ xs ++ take m ys
   take-past xs ys n m e = subst (λ (k : ℕ). take (k + m) (xs ++ ys) ≡ xs ++ take m ys) e (take-append-add xs ys m)
+
+  pub set-past : (xs ys : List A) (n m : ℕ) (a : A) → length xs ≡ n → set (xs ++ ys) (n + m) a ≡ xs ++ set ys m a
+  set-past [] ys zero m a e = rw zero-add
+  set-past [] ys (suc n) m a e = absurd (omega arith)
+  set-past (x ∷ xs) ys zero m a e = absurd (omega arith)
+  set-past (x ∷ xs) ys (suc n) m a e =
+      let k : suc n + m ≡ suc (n + m) = omega arith in
+      rw k (ap (λ (l : List A). x ∷ l) (set-past xs ys n m a (omega arith)))
 
   -- the element at an offset, and what is left after it
   pub drop-next : (l : List A) (p : ℕ) (d : A) → p < length l → drop p l ≡ getD l p d ∷ drop (p + 1) l

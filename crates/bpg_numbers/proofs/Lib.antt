@@ -1,0 +1,5 @@
+-- The laws of the number codes, each proved once over the width.
+pub mod Shifts
+pub mod Ue7Laws
+pub mod BitNumberLaws
+pub mod BitBufferLaws

@@ -1,0 +1,134 @@
+-- `ue7::read` meets its contract. The invariant: the value so far is within the limit, and reading on from the next byte gives
+-- what reading from the start does. Assumes nothing.
+use Prim.Native.Nat.{ℕ, min, _+_, _-_, _*_, _%_, _^_, _≤_, _<_}
+use mathlib.Core.Path.{_≡_, refl, sym, ap, _∙_}
+use mathlib.Core.List.{List, _∷_}
+use native.Mathlib.Omega.{arith}
+use lib.ListN.{length, drop, getD, drop-of-length-le}
+use lib.Pow.{pow-pos}
+use borrow.Author.Needs.{needs}
+use Rattle.bpg_codec.specs.Outcome.{Outcome, ok, error, located}
+use Rattle.bpg_codec.proofs.Lists.{drop-next}
+use Rattle.bpg_numbers.specs.Ue7.{ue7Rest, ue7Decode}
+use Rattle.bpg_numbers.proofs.Ue7Laws.{rest-end, rest-large, rest-last, rest-more, decode-end, decode-80, decode-rest}
+use Rattle.bpg_numbers.proofs.ue7.read.Statement.{statement}
+use Rattle.bpg_numbers.proofs.ue7.read.Tie as tie
+use Rattle.bpg_numbers.proofs.ue7.read.Reads as reads
+use Rattle.bpg_numbers.proofs.ue7.read.Lts as lts
+use Rattle.bpg_numbers.proofs.ue7.largest.Reads as largest-reads
+
+abbrev Inv-loop : tie.InvT-loop
+Inv-loop region at n start end most value₀ next₀ value next =
+    (value ≤ most) × (ue7Decode (min n 32) start (drop start region) ≡ ue7Rest (min n 32) start value next (drop next region))
+
+abbrev μ-loop : tie.MeasureT-loop
+μ-loop region at n start end most value₀ next₀ value next = end - next
+
+-- ---- what each way out and each turn says of the definition
+
+module _ (n start : ℕ) (region : List ℕ) where
+  abbrev all : Outcome (ℕ × ℕ × List ℕ)
+  all = ue7Decode n start (drop start region)
+
+  first : start < length region → getD (drop start region) 0 0 ≡ getD region start 0
+  first h = rw (drop-next region start 0 h)
+
+  empty : length region ≤ start → error 2 start ≡ located all
+  empty h = rw (drop-of-length-le region h, decode-end n start)
+
+  marked : start < length region → getD region start 0 ≡ 128 → error 7 start ≡ located all
+  marked h e = rw (decode-80 n start (drop start region) (first h ∙ e))
+
+  begun : start < length region → (getD region start 0 ≡ 128 → ⊥) → all ≡ ue7Rest n start 0 start (drop start region)
+  begun h e = decode-rest n start (drop start region) (λ z. e (sym (first h) ∙ z))
+
+  module _ (v p : ℕ) (inv : all ≡ ue7Rest n start v p (drop p region)) where
+    cut : length region ≤ p → error 2 start ≡ located all
+    cut h = rw (inv, drop-of-length-le region h, rest-end n start v p)
+
+    module _ (h : p < length region) where
+      seen : all ≡ ue7Rest n start v p (getD region p 0 ∷ drop (p + 1) region)
+      seen = inv ∙ rw (drop-next region p 0 h)
+
+      large : 2 ^ n ≤ v * 128 + getD region p 0 % 128 → error 8 start ≡ located all
+      large k = rw (seen, rest-large n start v p (getD region p 0) (drop (p + 1) region) k)
+
+      done : v * 128 + getD region p 0 % 128 < 2 ^ n → getD region p 0 < 128 → ok (v * 128 + getD region p 0 % 128, p + 1) ≡ located all
+      done k l = rw (seen, rest-last n start v p (getD region p 0) (drop (p + 1) region) k l)
+
+      more : v * 128 + getD region p 0 % 128 < 2 ^ n → 128 ≤ getD region p 0
+          → all ≡ ue7Rest n start (v * 128 + getD region p 0 % 128) (p + 1) (drop (p + 1) region)
+      more k l = seen ∙ rest-more n start v p (getD region p 0) (drop (p + 1) region) k l
+
+-- ---- the needs
+
+returns : tie.Need-returns Inv-loop μ-loop
+returns c = empty _ _ _ (omega arith)
+
+shared-slice-read-if2 : tie.Need-shared-slice-read-if2 Inv-loop μ-loop
+shared-slice-read-if2 c = omega arith
+
+returns-2 : tie.Need-returns-2 Inv-loop μ-loop
+returns-2 c = marked _ _ _ (omega arith) (c .if2 .taken)
+
+largest-requires : tie.Need-largest-requires Inv-loop μ-loop
+largest-requires c κs = search needs
+
+loop-holds : tie.Need-loop-holds Inv-loop μ-loop
+loop-holds c = (omega arith, begun _ _ _ (omega arith) (c .before .if2 .left))
+
+shared-slice-read-byte : tie.Need-shared-slice-read-byte Inv-loop μ-loop
+shared-slice-read-byte c = omega arith
+
+mul-value : tie.Need-mul-value Inv-loop μ-loop
+mul-value c = omega arith
+
+cast-value : tie.Need-cast-value Inv-loop μ-loop
+cast-value c = omega arith
+
+add-value : tie.Need-add-value Inv-loop μ-loop
+add-value c = omega arith
+
+returns-3 : tie.Need-returns-3 Inv-loop μ-loop
+returns-3 c = large _ _ _ _ _ (c .before .before .before .loop .inv .1) (omega arith) (omega arith)
+
+add-next : tie.Need-add-next Inv-loop μ-loop
+add-next c = omega arith
+
+cast-t18 : tie.Need-cast-t18 Inv-loop μ-loop
+cast-t18 c = omega arith
+
+returns-4 : tie.Need-returns-4 Inv-loop μ-loop
+returns-4 c = done _ _ _ _ _ (c .before .before .before .before .loop .inv .1) (omega arith) (omega (arith, pow-pos (min (c .before .before .before .before .before .before .before .before .before .before .args .n) 32))) (omega arith)
+
+loop-less : tie.Need-loop-less Inv-loop μ-loop
+loop-less c = omega arith
+
+loop-again : tie.Need-loop-again Inv-loop μ-loop
+loop-again c = (omega arith, more _ _ _ _ _ (c .before .before .before .before .loop .inv .1) (omega arith) (omega (arith, pow-pos (min (c .before .before .before .before .before .before .before .before .before .before .args .n) 32))) (omega arith))
+
+returns-5 : tie.Need-returns-5 Inv-loop μ-loop
+returns-5 c = cut _ _ _ _ _ (c .before .loop .inv .1) (omega arith)
+
+pub read-spec : {M : Type 1} → statement M
+read-spec =
+    tie.close
+    (tie.spec
+    Inv-loop
+    μ-loop
+    returns
+    shared-slice-read-if2
+    returns-2
+    largest-requires
+    loop-holds
+    shared-slice-read-byte
+    mul-value
+    cast-value
+    add-value
+    returns-3
+    add-next
+    cast-t18
+    returns-4
+    loop-less
+    loop-again
+    returns-5)

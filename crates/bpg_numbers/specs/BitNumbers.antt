@@ -1,0 +1,52 @@
+-- Numbers in bits (document 01, "Numbers in the file"; H.265, clauses 7.2 and 9.2): fields of n bits, u(n), and Exp-Golomb numbers, ue(v).
+-- What does not fit its region is refusal 15, at the item.
+use mathlib.Core.Bool.{Bool, true, false}
+use mathlib.Core.List.{List, [], _∷_, _++_}
+use Prim.Native.Nat.{ℕ, _+_, _-_, _^_, _<_}
+use lib.Count.{leadingZeros}
+use lib.Dec.{ltb, leb}
+use lib.ListN.{length, take, drop}
+use Rattle.bpg_codec.specs.Select.{select}
+use Rattle.bpg_codec.specs.Outcome.{Outcome, ok, error, _>>=_, guard}
+use Rattle.bpg_codec.specs.Codec.{Codec}
+use Rattle.bpg_codec.specs.Bits.{number, bits, zeros, unpack}
+
+-- the bits of a region, of which a position of 64 bits can name those of 2^60 bytes
+abbrev pub regionBits : List ℕ → List Bool
+regionBits region = unpack (take (2 ^ 60) region)
+
+-- u(n): the next n bits, the high bit first
+abbrev pub unsigned : ℕ → Codec Bool ℕ
+unsigned n =
+    record {
+      encode = bits n;
+      decode = λ i p l. guard (leb n (length l)) 15 i >>= λ _. ok (number (take n l), p + n, drop n l);
+      Valid = λ v. v < 2 ^ n;
+    }
+
+-- z zero bits and a one; z is at most 31
+unfoldable pub prefixDecode : (item z own : ℕ) → List Bool → Outcome (ℕ × ℕ × List Bool)
+prefixDecode i z p [] = error 15 i
+prefixDecode i z p (true ∷ l) = ok (z, p + 1, l)
+prefixDecode i z p (false ∷ l) = let more = prefixDecode i (z + 1) (p + 1) l in guard (ltb z 31) 15 i >>= λ _. more
+
+-- z further bits; the value is 2^z - 1 plus those bits
+abbrev pub expGolombSuffix : (item z own : ℕ) → List Bool → Outcome (ℕ × ℕ × List Bool)
+expGolombSuffix i z p l = unsigned z .decode i p l >>= λ x. ok (2 ^ z - 1 + x .0, x .1, x .2)
+
+-- z, from the leading zeros of value + 1 as a 32-bit number
+abbrev pub prefixZeros : ℕ → ℕ
+prefixZeros v = 31 - leadingZeros 32 (v + 1)
+
+-- z zero bits, a one, z further bits; no code for 2^32 - 1 and above
+unfoldable pub expGolombBits : ℕ → List Bool
+expGolombBits v = select (ltb v (2 ^ 32 - 1)) (zeros (prefixZeros v) ++ (true ∷ bits (prefixZeros v) (v + 1 - 2 ^ prefixZeros v))) []
+
+-- ue(v)
+abbrev pub expGolomb : Codec Bool ℕ
+expGolomb =
+    record {
+      encode = expGolombBits;
+      decode = λ i p l. prefixDecode i 0 p l >>= λ x. expGolombSuffix i (x .0) (x .1) (x .2);
+      Valid = λ v. v < 2 ^ 32 - 1;
+    }
