@@ -8,7 +8,7 @@ use native.Mathlib.Numerals.{add-one}
 use native.Mathlib.Omega.{arith}
 use lib.Dec.{eqb}
 use lib.Pow.{mod-pow-add, high, low, shr-shr, shr-lt, pow-pos, pow-add}
-use lib.ListN.{length, take, drop, getD, set, length-append, length-drop, take-append-drop, List·getD-append}
+use lib.ListN.{length, take, drop, getD, set, replicate, replicate-append-replicate, length-append, length-drop, take-append-drop, List·getD-append}
 use lib.Seq.{getD-append-add, set-at, set-append-left, take-at, drop-at, length-take-le, drop-nil, take-nil}
 use Rattle.bpg_codec.specs.Lawful.{All, Byte}
 use Rattle.bpg_codec.specs.Bits.{bit, numberFrom, number, bitAt, bits, withBit, zeros, unpack, pack}
@@ -151,6 +151,14 @@ getD-bits (suc n) v (suc j) h = let e : suc n - 1 - suc j ≡ n - 1 - j = omega 
 
 -- ---- the bits of bytes
 
+eight : (n : ℕ) → 8 * suc n ≡ 8 + 8 * n
+eight n = omega arith
+
+pub unpack-zeros : (n : ℕ) → unpack (replicate n 0) ≡ zeros (8 * n)
+unfolding unpack
+unpack-zeros zero = refl
+unpack-zeros (suc n) = rw (bits-zero 8, unpack-zeros n, eight n) (replicate-append-replicate 8 (8 * n) false)
+
 pub length-unpack : (l : List ℕ) → length (unpack l) ≡ 8 * length l
 unfolding unpack
 length-unpack [] = refl
@@ -160,9 +168,6 @@ pub unpack-append : (l m : List ℕ) → unpack (l ++ m) ≡ unpack l ++ unpack 
 unfolding unpack
 unpack-append [] m = refl
 unpack-append (b ∷ l) m = rw (unpack-append l m, append-assoc)
-
-eight : (n : ℕ) → 8 * suc n ≡ 8 + 8 * n
-eight n = omega arith
 
 pub unpack-drop : (n : ℕ) (l : List ℕ) → unpack (drop n l) ≡ drop (8 * n) (unpack l)
 unfolding unpack

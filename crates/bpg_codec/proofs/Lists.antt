@@ -1,12 +1,12 @@
 -- Laws on lists and ranges of lists that the kit lacks. Assumes nothing.
 use mathlib.Core.Path.{_≡_, refl, sym, ap, _∙_, subst}
 use mathlib.Core.List.{List, [], _∷_, _++_}
-use Prim.Native.Nat.{ℕ, zero, suc, _+_, _≤_, _<_}
+use Prim.Native.Nat.{ℕ, zero, suc, _+_, _-_, _≤_, _<_}
 use native.Mathlib.Decide.{decLe}
 use native.Mathlib.Nat.{zero-add, lt-of-not-le}
 use native.Mathlib.Numerals.{add-one}
 use native.Mathlib.Omega.{arith}
-use lib.ListN.{length, take, drop, getD, set}
+use lib.ListN.{length, take, drop, getD, set, replicate}
 use lib.Seq.{drop-cons, take-nil, take-append-add, drop-append-add}
 
 -- one case or the other
@@ -38,3 +38,13 @@ module _ {A : Type 0} where
   take-drop n zero l = rw zero-add
   take-drop n (suc p) [] = take-nil n ∙ sym (ap (drop (suc p)) (take-nil (suc p + n)))
   take-drop n (suc p) (x ∷ l) = let e : suc p + n ≡ suc (p + n) = omega arith in rw e (take-drop n p l)
+
+  pub drop-replicate : (n k : ℕ) (a : A) → drop n (replicate k a) ≡ replicate (k - n) a
+  drop-replicate zero k a = let e : k - 0 ≡ k = omega arith in rw e
+  drop-replicate (suc n) zero a = let e : 0 - suc n ≡ 0 = omega arith in rw e
+  drop-replicate (suc n) (suc k) a = let e : suc k - suc n ≡ k - n = omega arith in rw e (drop-replicate n k a)
+
+  pub take-replicate : (n k : ℕ) (a : A) → n ≤ k → take n (replicate k a) ≡ replicate n a
+  take-replicate zero k a h = refl
+  take-replicate (suc n) zero a h = absurd (omega arith)
+  take-replicate (suc n) (suc k) a h = ap (λ (l : List A). a ∷ l) (take-replicate n k a (omega arith))

@@ -17,7 +17,7 @@ use Rattle.bpg_codec.proofs.Tokens.{all-bits}
 use Rattle.bpg_codec.proofs.Bits.{length-pack, unpack-pack, pack-unpack, bytes-pack, length-unpack}
 use Rattle.bpg_codec.proofs.Regions.{FoundExact}
 
-allZero-zeros : (n : ℕ) → T (allZero (zeros n))
+pub allZero-zeros : (n : ℕ) → T (allZero (zeros n))
 allZero-zeros zero = tt
 allZero-zeros (suc n) = allZero-zeros n
 

@@ -180,8 +180,7 @@ expGolomb-found i p l x y e f =
     let valid : 2 ^ (x .0) - 1 + y .0 < 2 ^ 32 - 1 = omega (arith, t .0, s .1, pow-mono {i = z} {j = 31} (s .1), pow-pos z) in
     let same : prefixZeros (2 ^ (x .0) - 1 + y .0) ≡ x .0 = top-unique v _ z (top v valid .0) (value-top z (y .0) (s .1) (t .0)) in
     let low : 2 ^ (x .0) - 1 + y .0 + 1 - 2 ^ (x .0) ≡ y .0 = omega (arith, pow-pos z) in
-    let z0 : x .0 - 0 ≡ x .0 = omega arith in
-    (
+    let z0 : x .0 - 0 ≡ x .0 = omega arith in (
       valid,
       s .2 ∙ rw (z0, expGolomb-bits v valid, same, low, append-assoc, ← t .1),
       rw (expGolomb-size v valid, same) (omega (arith, t .2, s .3, length-bits (x .0) (y .0))),

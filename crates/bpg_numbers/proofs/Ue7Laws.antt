@@ -219,8 +219,7 @@ module _ (n start : ℕ) where
           → Read v p (b ∷ l) x
       go-on g m rec =
           let s = high-next v b m (h .0) (k m) in
-          let ih = rec (λ _. omega (arith, k m)) (sym (rest-more n start v p b l g m) ∙ e) in
-          (
+          let ih = rec (λ _. omega (arith, k m)) (sym (rest-more n start v p b l g m) ∙ e) in (
             ih .0,
             sym (append-assoc (high v) (b ∷ []) l) ∙ rw (← s) (ih .1),
             omega (arith, ih .2, ap length s, length-append (high v) (b ∷ [])),
@@ -231,7 +230,7 @@ encodes : (n start : ℕ) (l : List ℕ) → All Byte l → (a q : ℕ) (r : Lis
 encodes n start [] h a q r e = absurd (error-not-ok (sym (decode-end n start) ∙ e))
 encodes n start (b ∷ l) h a q r e =
     elim (ℕ-discrete b 128) [
-        yes z ↦ absurd (error-not-ok (sym (decode-80 n start (b ∷ l) z) ∙ e))
+      | yes z ↦ absurd (error-not-ok (sym (decode-80 n start (b ∷ l) z) ∙ e))
       | no z ↦ read z (rest-read n start (b ∷ l) h 0 start (λ k. omega arith) (a, q, r) (sym (decode-rest n start (b ∷ l) z) ∙ e))
     ]
   where

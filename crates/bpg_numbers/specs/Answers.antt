@@ -4,7 +4,7 @@ use Rattle.bpg_codec.specs.Outcome.{Outcome, ok, error}
 use Rattle.bpg_numbers.specs.declared.ue7.Number.{Number}
 use Rattle.bpg_numbers.specs.declared.ue7.Number.the-variants.{Value, Refused}
 use Rattle.bpg_numbers.specs.declared.bits.BitNumber.{BitNumber}
-use Rattle.bpg_numbers.specs.declared.bits.BitNumber.the-variants.{Missing} 
+use Rattle.bpg_numbers.specs.declared.bits.BitNumber.the-variants.{Missing}
 
 -- the number and the offset after it; or the refusal's number and place
 abbrev pub numberOutcome : Number → Outcome (ℕ × ℕ)

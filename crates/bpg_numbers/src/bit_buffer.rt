@@ -5,7 +5,6 @@ use crate::buffer;
 use crate::exp_golomb;
 use crate::position::BitPos;
 use crate::position::BytePos;
-
 ghost use mathlib.Core.Path.{_≡_};
 ghost use Prim.Native.Nat.{min, _<_};
 ghost use lib.ListN.{take};

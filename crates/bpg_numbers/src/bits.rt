@@ -3,7 +3,6 @@ use crate::arithmetic::least;
 use crate::arithmetic::room;
 use crate::arithmetic::wide;
 use crate::position::BitPos;
-
 ghost use mathlib.Core.Path.{_≡_};
 ghost use mathlib.Core.Bool.{false};
 ghost use Prim.Native.Nat.{ℕ, min};

@@ -3,7 +3,6 @@
 use crate::bits;
 use crate::bits::BitNumber;
 use crate::position::BitPos;
-
 ghost use mathlib.Core.Path.{_≡_};
 ghost use Prim.Native.Nat.{ℕ, _<_};
 ghost use lib.ListN.{length, drop};

@@ -2,7 +2,6 @@
 // Only the shortest form is taken.
 use crate::arithmetic::room;
 use crate::position::BytePos;
-
 ghost use mathlib.Core.Path.{_≡_};
 ghost use Prim.Native.Nat.{min, _-_, _^_, _<_};
 ghost use lib.ListN.{length, drop};

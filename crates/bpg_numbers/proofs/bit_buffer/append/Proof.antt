@@ -13,10 +13,6 @@ use Rattle.bpg_numbers.specs.BitBuffer.{storeBits, appended}
 use Rattle.bpg_numbers.proofs.BitBufferLaws.{append-fits, append-not, store-next, store-none}
 use Rattle.bpg_numbers.proofs.bit_buffer.append.Statement.{statement}
 use Rattle.bpg_numbers.proofs.bit_buffer.append.Tie as tie
-use Rattle.bpg_numbers.proofs.bit_buffer.append.Reads as reads
-use Rattle.bpg_numbers.proofs.bit_buffer.append.Lts as lts
-use Rattle.bpg_numbers.proofs.arithmetic.least.Reads as least-reads
-use Rattle.bpg_numbers.proofs.bit_buffer.with_bit.Reads as with-bit-reads
 
 abbrev Inv-loop : tie.InvT-loop
 Inv-loop n v start width past bytes₀ next₀ bytes next =

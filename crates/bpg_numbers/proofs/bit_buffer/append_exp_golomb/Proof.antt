@@ -12,10 +12,6 @@ use Rattle.bpg_numbers.proofs.BitNumberLaws.{top, expGolomb-size, expGo
 use borrow.Author.Needs.{needs}
 use Rattle.bpg_numbers.proofs.bit_buffer.append_exp_golomb.Statement.{statement}
 use Rattle.bpg_numbers.proofs.bit_buffer.append_exp_golomb.Tie as tie
-use Rattle.bpg_numbers.proofs.bit_buffer.append_exp_golomb.Reads as reads
-use Rattle.bpg_numbers.proofs.bit_buffer.append_exp_golomb.Lts as lts
-use Rattle.bpg_numbers.proofs.bit_buffer.append.Reads as append-reads
-use Rattle.bpg_numbers.proofs.exp_golomb.size.Reads as size-reads
 
 no-bits : (v : ℕ) → bits 0 v ≡ []
 unfolding bits

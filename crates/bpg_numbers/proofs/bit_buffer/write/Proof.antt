@@ -10,10 +10,6 @@ use Rattle.bpg_codec.proofs.Lists.{either-way}
 use borrow.Author.Needs.{needs}
 use Rattle.bpg_numbers.proofs.bit_buffer.write.Statement.{statement}
 use Rattle.bpg_numbers.proofs.bit_buffer.write.Tie as tie
-use Rattle.bpg_numbers.proofs.bit_buffer.write.Reads as reads
-use Rattle.bpg_numbers.proofs.bit_buffer.write.Lts as lts
-use Rattle.bpg_numbers.proofs.arithmetic.least.Reads as least-reads
-use Rattle.bpg_numbers.proofs.buffer.write.Reads as write-reads
 
 -- the array has 64 bytes
 sixty-four : (c : tie.Start) → length (c .args .b .bytes) ≡ 64

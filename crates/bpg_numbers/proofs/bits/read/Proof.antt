@@ -16,12 +16,6 @@ use Rattle.bpg_numbers.specs.BitNumbers.{regionBits, unsigned}
 use Rattle.bpg_numbers.proofs.BitNumberLaws.{region-bit}
 use Rattle.bpg_numbers.proofs.bits.read.Statement.{statement}
 use Rattle.bpg_numbers.proofs.bits.read.Tie as tie
-use Rattle.bpg_numbers.proofs.bits.read.Reads as reads
-use Rattle.bpg_numbers.proofs.bits.read.Lts as lts
-use Rattle.bpg_numbers.proofs.arithmetic.least.Reads as least-reads
-use Rattle.bpg_numbers.proofs.arithmetic.room.Reads as room-reads
-use Rattle.bpg_numbers.proofs.bits.bit.Reads as bit-reads
-use Rattle.bpg_numbers.proofs.bits.count.Reads as count-reads
 
 abbrev Inv-loop : tie.InvT-loop
 Inv-loop region n start width past value₀ next₀ value next =
@@ -103,14 +97,13 @@ loop-less c = omega arith
 loop-again : tie.Need-loop-again Inv-loop μ-loop
 loop-again c = let l = c .before .before .loop in
     let st = c .before .before .before .before .before .before .before .before in
-    let n : l .next + 1 - st .args .at .0 ≡ suc (l .next - st .args .at .0) = omega arith in
-    (
+    let n : l .next + 1 - st .args .at .0 ≡ suc (l .next - st .args .at .0) = omega arith in (
       omega arith,
       omega arith,
       rw n (omega (arith, one-bit c)),
       step (regionBits (st .args .region .now)) (l .next) _ (l .value) _ _ (c .before .loop-test .taken) (omega arith)
-      (c .bit .ensures ∙ ap bit (region-bit (st .args .region .now) (l .next) (omega arith)))
-      (l .inv .3),
+          (c .bit .ensures ∙ ap bit (region-bit (st .args .region .now) (l .next) (omega arith)))
+          (l .inv .3),
     )
 
 cast-t15 : tie.Need-cast-t15 Inv-loop μ-loop

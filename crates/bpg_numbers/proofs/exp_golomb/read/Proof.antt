@@ -15,11 +15,6 @@ use Rattle.bpg_numbers.specs.BitNumbers.{regionBits, prefixDecode, expGo
 use Rattle.bpg_numbers.proofs.BitNumberLaws.{region-bit, prefix-end, prefix-one, prefix-zero, prefix-long}
 use Rattle.bpg_numbers.proofs.exp_golomb.read.Statement.{statement}
 use Rattle.bpg_numbers.proofs.exp_golomb.read.Tie as tie
-use Rattle.bpg_numbers.proofs.exp_golomb.read.Reads as reads
-use Rattle.bpg_numbers.proofs.exp_golomb.read.Lts as lts
-use Rattle.bpg_numbers.proofs.bits.bit.Reads as bit-reads
-use Rattle.bpg_numbers.proofs.bits.count.Reads as count-reads
-use Rattle.bpg_numbers.proofs.exp_golomb.suffix.Reads as suffix-reads
 
 abbrev Inv-loop : tie.InvT-loop
 Inv-loop region end z₀ next₀ z next = (z ≤ 31) × ((i : ℕ) → prefixDecode i 0 next₀ (drop next₀ (regionBits region)) ≡ prefixDecode i z next (drop next (regionBits region)))

@@ -8,8 +8,6 @@ use Rattle.bpg_numbers.proofs.BitNumberLaws.{top, expGolomb-size, expGo
 use borrow.Author.Needs.{needs}
 use Rattle.bpg_numbers.proofs.exp_golomb.size.Statement.{statement}
 use Rattle.bpg_numbers.proofs.exp_golomb.size.Tie as tie
-use Rattle.bpg_numbers.proofs.exp_golomb.size.Reads as reads
-use Rattle.bpg_numbers.proofs.exp_golomb.size.Lts as lts
 
 returns : tie.Need-returns
 returns c = sym (ap length (expGolomb-none (c .before .args .v) (omega arith)))

@@ -13,9 +13,6 @@ use Rattle.bpg_numbers.specs.Ue7.{ue7Rest, ue7Decode}
 use Rattle.bpg_numbers.proofs.Ue7Laws.{rest-end, rest-large, rest-last, rest-more, decode-end, decode-80, decode-rest}
 use Rattle.bpg_numbers.proofs.ue7.read.Statement.{statement}
 use Rattle.bpg_numbers.proofs.ue7.read.Tie as tie
-use Rattle.bpg_numbers.proofs.ue7.read.Reads as reads
-use Rattle.bpg_numbers.proofs.ue7.read.Lts as lts
-use Rattle.bpg_numbers.proofs.ue7.largest.Reads as largest-reads
 
 abbrev Inv-loop : tie.InvT-loop
 Inv-loop region at n start end most value₀ next₀ value next =

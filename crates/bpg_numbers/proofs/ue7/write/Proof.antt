@@ -13,10 +13,6 @@ use Rattle.bpg_numbers.specs.Ue7.{ue7Bytes}
 use Rattle.bpg_numbers.proofs.Ue7Laws.{high, high-zero, high-more, bytes-high, size-high, size-bytes, size-positive}
 use Rattle.bpg_numbers.proofs.ue7.write.Statement.{statement}
 use Rattle.bpg_numbers.proofs.ue7.write.Tie as tie
-use Rattle.bpg_numbers.proofs.ue7.write.Reads as reads
-use Rattle.bpg_numbers.proofs.ue7.write.Lts as lts
-use Rattle.bpg_numbers.proofs.arithmetic.room.Reads as room-reads
-use Rattle.bpg_numbers.proofs.ue7.size.Reads as size-reads
 
 abbrev Inv-loop : tie.InvT-loop
 Inv-loop out₀ v start count past next₀ left₀ out next left =
@@ -114,10 +110,9 @@ returns-2 c = let l = c .before .loop in
     let n = c .before .before .before .before .size in
     let z : l .left ≡ 0 = omega arith in
     let i : l .next ≡ a .at .0 = omega (arith, ap length (ap high z ∙ high-zero)) in
-    let s = stored (a .out .now) (a .at .0) (ue7Bytes (a .v)) (omega arith) in
-    (
+    let s = stored (a .out .now) (a .at .0) (ue7Bytes (a .v)) (omega arith) in (
       done (a .out .now) (l .out) (a .at .0) (a .at .0 + n .result) (a .v) (omega (arith, size-positive (a .v))) (omega arith) (omega arith)
-      (rw (z, i) at (l .inv .0)) (rw i at (l .inv .1)) ∙ s .0,
+          (rw (z, i) at (l .inv .0)) (rw i at (l .inv .1)) ∙ s .0,
       ap (λ (k : ℕ). a .at .0 + k) (n .ensures) ∙ s .1,
     )
 
