@@ -3,3 +3,4 @@ pub mod Shifts
 pub mod Ue7Laws
 pub mod BitNumberLaws
 pub mod BitBufferLaws
+pub mod Examples

@@ -5,8 +5,6 @@
 //   1  n bits read at a bit position             4  n bits of the number appended to a bit buffer of twice the position in bits
 //   2  ue(v) read at a bit position              5  the number appended as ue(v) to an empty bit buffer, written into n bytes
 // A buffer is filled with a5 first.
-mod text;
-
 use bpg_numbers::BitPos;
 use bpg_numbers::BytePos;
 use bpg_numbers::bit_buffer;
@@ -16,18 +14,111 @@ use bpg_numbers::bits::BitNumber;
 use bpg_numbers::exp_golomb;
 use bpg_numbers::ue7;
 use bpg_numbers::ue7::Number;
+ghost use Prim.Native.Nat.{_≤_};
+
+// The bytes of a line so far. `half` is a digit that waits for its second, or 16.
+struct Line {
+    bytes: [u8; 64],
+    count: usize,
+    half: u8,
+}
+
+fn no_line() -> Line {
+    Line {
+        bytes: [0; 64],
+        count: 0,
+        half: 16,
+    }
+}
+
+// A digit's value, or 16.
+fn digit(c: u8) -> u8
+    ensures { λ r. ⌜ r ≤ 16 ⌝ }
+{
+    match c {
+        b'0'..=b'9' => c - b'0',
+        b'a'..=b'f' => c - 87,
+        _ => 16,
+    }
+}
+
+// The line with one more character.
+fn extended(line: Line, c: u8) -> Line {
+    let d = digit(c);
+    let half = line.half;
+    let count = line.count;
+    if d == 16 {
+        return line;
+    }
+    let mut next = line;
+    if 16 <= half {
+        next.half = d;
+        return next;
+    }
+    if 64 <= count {
+        return line;
+    }
+    next.bytes[count] = half * 16 + d;
+    next.count = count + 1;
+    next.half = 16;
+    next
+}
+
+fn wide(x: u8) -> u64
+    ensures { λ r. ⌜ r ≤ 255 ⌝ }
+{
+    x as u64
+}
+
+// The number that bytes make, the high byte first; of more than eight, the last eight.
+fn number(s: &[u8]) -> u64 {
+    let mut v: u64 = 0;
+    let mut i = 0;
+    while i < s.len() {
+        v = v % 0x100_0000_0000_0000 * 256 + wide(s[i]);
+        i += 1;
+    }
+    v
+}
+
+fn show(s: &[u8]) {
+    io::write_all(1, s);
+}
+
+fn show_pair(first: &[u8], a: u64, second: &[u8], b: usize) {
+    io::write_all(1, first);
+    io::print_decimal(1, a);
+    io::write_all(1, second);
+    io::print_decimal(1, b as u64);
+}
+
+// The hex digit of a number's low four bits.
+fn hex_digit(n: u8) -> u8 {
+    let d = n % 16;
+    if d < 10 { b'0' + d } else { 87 + d }
+}
+
+// The bytes as hex digits.
+fn show_bytes(s: &[u8]) {
+    let mut i = 0;
+    while i < s.len() {
+        let b = s[i];
+        io::write_all(1, &[hex_digit(b / 16), hex_digit(b)]);
+        i += 1;
+    }
+}
 
 fn show_number(r: Number) {
     match r {
-        Number::Value(v, p) => text::pair(b" value ", v as u64, b" next ", p.0),
-        Number::Refused(s, p) => text::pair(b" refused ", s as u64, b" at ", p.0),
+        Number::Value(v, p) => show_pair(b" value ", v as u64, b" next ", p.0),
+        Number::Refused(s, p) => show_pair(b" refused ", s as u64, b" at ", p.0),
     }
 }
 
 fn show_bits(r: BitNumber) {
     match r {
-        BitNumber::Value(v, p) => text::pair(b" value ", v as u64, b" next ", p.0),
-        BitNumber::Missing => text::word(b" missing"),
+        BitNumber::Value(v, p) => show_pair(b" value ", v as u64, b" next ", p.0),
+        BitNumber::Missing => show(b" missing"),
     }
 }
 
@@ -37,9 +128,9 @@ fn write_ue7(space: &mut [u8], size: usize, at: usize, v: u64) {
     }
     let low = (v % 0x1_0000_0000) as u32;
     let end = ue7::write(&mut space[0..size], BytePos(at), low);
-    text::pair(b" size ", ue7::size(low) as u64, b" next ", end.0);
-    text::word(b" ");
-    text::bytes(&space[0..size]);
+    show_pair(b" size ", ue7::size(low) as u64, b" next ", end.0);
+    show(b" ");
+    show_bytes(&space[0..size]);
 }
 
 fn append(n: u32, at: usize, v: u64) {
@@ -51,10 +142,10 @@ fn append(n: u32, at: usize, v: u64) {
         n,
         v,
     );
-    text::pair(b" bits ", n as u64, b" len ", b.len.0);
+    show_pair(b" bits ", n as u64, b" len ", b.len.0);
     let bytes = b.bytes;
-    text::word(b" ");
-    text::bytes(&bytes);
+    show(b" ");
+    show_bytes(&bytes);
 }
 
 fn append_exp_golomb(space: &mut [u8], size: usize, at: usize, v: u64) {
@@ -64,9 +155,9 @@ fn append_exp_golomb(space: &mut [u8], size: usize, at: usize, v: u64) {
     let low = (v % 0x1_0000_0000) as u32;
     let b = bit_buffer::append_exp_golomb(bit_buffer::none(), low);
     let end = bit_buffer::write(&mut space[0..size], BytePos(at), b);
-    text::pair(b" bits ", exp_golomb::size(low) as u64, b" next ", end.0);
-    text::word(b" ");
-    text::bytes(&space[0..size]);
+    show_pair(b" bits ", exp_golomb::size(low) as u64, b" next ", end.0);
+    show(b" ");
+    show_bytes(&space[0..size]);
 }
 
 fn run(kind: u8, n: u8, at: u8, s: &[u8]) {
@@ -77,9 +168,9 @@ fn run(kind: u8, n: u8, at: u8, s: &[u8]) {
         0 => show_number(ue7::read(s, BytePos(place), width)),
         1 => show_bits(bits::read(s, BitPos(place), width)),
         2 => show_bits(exp_golomb::read(s, BitPos(place))),
-        3 => write_ue7(&mut space, n as usize, place, text::number(s)),
-        4 => append(width, 2 * place, text::number(s)),
-        _ => append_exp_golomb(&mut space, n as usize, place, text::number(s)),
+        3 => write_ue7(&mut space, n as usize, place, number(s)),
+        4 => append(width, 2 * place, number(s)),
+        _ => append_exp_golomb(&mut space, n as usize, place, number(s)),
     }
 }
 
@@ -92,12 +183,12 @@ fn case(line: &[u8], count: usize) {
     if s.len() < 3 {
         return;
     }
-    text::bytes(s);
+    show_bytes(s);
     run(s[0], s[1], s[2], &s[3..]);
-    text::word(b"\n");
+    show(b"\n");
 }
 
-fn line_case(line: text::Line) {
+fn line_case(line: Line) {
     let bytes = line.bytes;
     let count = line.count;
     case(&bytes, count);
@@ -105,14 +196,14 @@ fn line_case(line: text::Line) {
 
 // Each line of the text.
 fn cases(s: &[u8]) {
-    let mut line = text::none();
+    let mut line = no_line();
     let mut i = 0;
     while i < s.len() {
         if s[i] == b'\n' {
             line_case(line);
-            line = text::none();
+            line = no_line();
         } else {
-            line = text::more(line, s[i]);
+            line = extended(line, s[i]);
         }
         i += 1;
     }

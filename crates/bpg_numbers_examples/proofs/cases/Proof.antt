@@ -11,8 +11,8 @@ Inv-loop s line₀ i₀ line i = i ≤ length s
 abbrev μ-loop : tie.MeasureT-loop
 μ-loop s line₀ i₀ line i = length s - i
 
-none-requires : tie.Need-none-requires Inv-loop μ-loop
-none-requires c κs = search needs
+no-line-requires : tie.Need-no-line-requires Inv-loop μ-loop
+no-line-requires c κs = search needs
 
 loop-holds : tie.Need-loop-holds Inv-loop μ-loop
 loop-holds c = search needs
@@ -23,14 +23,14 @@ shared-slice-read-if1 c = search needs
 line-case-requires : tie.Need-line-case-requires Inv-loop μ-loop
 line-case-requires c κs = search needs
 
-none-requires-2 : tie.Need-none-requires-2 Inv-loop μ-loop
-none-requires-2 c κs = search needs
+no-line-requires-2 : tie.Need-no-line-requires-2 Inv-loop μ-loop
+no-line-requires-2 c κs = search needs
 
-shared-slice-read-more : tie.Need-shared-slice-read-more Inv-loop μ-loop
-shared-slice-read-more c = search needs
+shared-slice-read-extended : tie.Need-shared-slice-read-extended Inv-loop μ-loop
+shared-slice-read-extended c = search needs
 
-more-requires : tie.Need-more-requires Inv-loop μ-loop
-more-requires c κs = search needs
+extended-requires : tie.Need-extended-requires Inv-loop μ-loop
+extended-requires c κs = search needs
 
 add-i : tie.Need-add-i Inv-loop μ-loop
 add-i c = search needs
@@ -50,13 +50,13 @@ cases-spec =
     (tie.spec
     Inv-loop
     μ-loop
-    none-requires
+    no-line-requires
     loop-holds
     shared-slice-read-if1
     line-case-requires
-    none-requires-2
-    shared-slice-read-more
-    more-requires
+    no-line-requires-2
+    shared-slice-read-extended
+    extended-requires
     add-i
     loop-less
     loop-again

@@ -1,9 +1,9 @@
--- `text::number` meets its contract. Assumes nothing.
+-- `number` meets its contract. Assumes nothing.
 use Prim.Native.Nat.{_≤_, _-_}
 use lib.ListN.{length}
 use borrow.Author.Needs.{needs}
-use Rattle.bpg_numbers_examples.proofs.text.number.Statement.{statement}
-use Rattle.bpg_numbers_examples.proofs.text.number.Tie as tie
+use Rattle.bpg_numbers_examples.proofs.number.Statement.{statement}
+use Rattle.bpg_numbers_examples.proofs.number.Tie as tie
 
 abbrev Inv-loop : tie.InvT-loop
 Inv-loop s v₀ i₀ v i = i ≤ length s

@@ -1,9 +1,9 @@
--- `text::bytes` meets its contract. Assumes nothing.
+-- `show_bytes` meets its contract. Assumes nothing.
 use Prim.Native.Nat.{_≤_, _-_}
 use lib.ListN.{length}
 use borrow.Author.Needs.{needs}
-use Rattle.bpg_numbers_examples.proofs.text.bytes.Statement.{statement}
-use Rattle.bpg_numbers_examples.proofs.text.bytes.Tie as tie
+use Rattle.bpg_numbers_examples.proofs.show_bytes.Statement.{statement}
+use Rattle.bpg_numbers_examples.proofs.show_bytes.Tie as tie
 
 abbrev Inv-loop : tie.InvT-loop
 Inv-loop s i₀ i = i ≤ length s
@@ -41,8 +41,8 @@ loop-again c = search needs
 returns : tie.Need-returns Inv-loop μ-loop
 returns c = search needs
 
-pub bytes-spec : {M : Type 1} → statement M
-bytes-spec =
+pub show-bytes-spec : {M : Type 1} → statement M
+show-bytes-spec =
     tie.close
     (tie.spec
     Inv-loop
