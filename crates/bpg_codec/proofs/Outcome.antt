@@ -19,6 +19,11 @@ pub unbind : {A B P : Type 0} (m : Outcome A) (k : A → Outcome B) {b : B} → 
 unbind (ok a) k e f = f a refl e
 unbind (error s o) k e f = absurd (error-not-ok e)
 
+-- steps regroup
+pub bind-assoc : {A B C : Type 0} (m : Outcome A) (k : A → Outcome B) (f : B → Outcome C) → ((m >>= k) >>= f) ≡ (m >>= λ a. (k a >>= f))
+bind-assoc (ok a) k f = refl
+bind-assoc (error s o) k f = refl
+
 -- a rule and what follows it, where all of it is a value
 pub unguard : {B P : Type 0} (t : Bool) (s o : ℕ) (k : Outcome B) {b : B} → (guard t s o >>= λ _. k) ≡ ok b → (T t → k ≡ ok b → P) → P
 unguard true s o k e f = f tt e

@@ -9,7 +9,7 @@ use lib.ListN.{length, length-append}
 use Rattle.bpg_codec.specs.Outcome.{Outcome, ok, error, _>>=_, guard}
 use Rattle.bpg_codec.specs.Codec.{Codec, Exact}
 use Rattle.bpg_codec.specs.Lawful.{All, Lawful, ExactLawful}
-use Rattle.bpg_codec.specs.Regions.{thenRest, itemThenRest, mappedExact, guardedRegion, rest, verbatim, encodeEach, decodeEach, ValidEach, repeated}
+use Rattle.bpg_codec.specs.Regions.{thenRest, itemThenRest, mappedExact, derived, guardedRegion, rest, verbatim, encodeEach, decodeEach, ValidEach, repeated}
 use Rattle.bpg_codec.proofs.Outcome.{ok-injective, error-not-ok, unbind, unguard, guard-true}
 use Rattle.bpg_codec.proofs.Tokens.{all-append, all-rest}
 
@@ -68,6 +68,19 @@ module _ {S A B : Type 0} {Token : S → Type 0} {c : Exact S A} {to : A → B} 
             let s = hc .encodes i p l h a e1 in
             let g = from-to a (s .0) in
             subst (FoundExact (mappedExact c to from) l) (ok-injective k1) (subst (c .Valid) (sym g) (s .0), cc);
+      }
+
+module _ {S A B : Type 0} {Token : S → Type 0} {c : Exact S A} (f : A → B) (hc : ExactLawful Token c) where
+  pub derived-lawful : ExactLawful Token (derived c f)
+  unfolding derived
+  derived-lawful =
+      record {
+        tokens = λ x v. hc .tokens (x .0) (v .0);
+        decodes = λ x v i p. rw (hc .decodes (x .0) (v .0), v .1);
+        encodes = λ i p l h x e.
+            unbind (c .decode i p l) _ e λ a e1 k1.
+            let s = hc .encodes i p l h a e1 in
+            subst (FoundExact (derived c f) l) (ok-injective k1) ((s .0, refl), s .1);
       }
 
 module _ {S A : Type 0} {Token : S → Type 0} {c : Exact S A} (rule : ℕ → Bool) (status : ℕ) (offset : ℕ → ℕ → ℕ) (hc : ExactLawful Token c) where

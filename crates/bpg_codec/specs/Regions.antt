@@ -38,6 +38,15 @@ module _ {S : Type 0} where
         Valid = λ b. c .Valid (from b);
       }
 
+  -- beside the value, another that follows from it
+  unfoldable pub derived : {A B : Type 0} → Exact S A → (A → B) → Exact S (A × B)
+  derived c f =
+      record {
+        encode = λ x. c .encode (x .0);
+        decode = λ i p l. c .decode i p l >>= λ a. ok (a, f a);
+        Valid = λ x. c .Valid (x .0) × (x .1 ≡ f (x .0));
+      }
+
   -- a rule on the region's length, judged before the region is read
   unfoldable pub guardedRegion : {A : Type 0} → (rule : ℕ → Bool) (status : ℕ) (offset : ℕ → ℕ → ℕ) → Exact S A → Exact S A
   guardedRegion rule status offset c =

@@ -1,0 +1,268 @@
+-- The format as codecs (document 01, "Order of the file"): the laws of the combinators give that a file is read as a content exactly when
+-- it is the file of that content, and that the content keeps the rules. `Read` has the same reading as one plain chain.
+use mathlib.Core.Path.{_≡_}
+use mathlib.Core.Bool.{Bool, true, false, not, _&&_, _||_}
+use mathlib.Core.List.{List, [], _∷_, _++_}
+use Prim.Native.Nat.{ℕ, _+_, _*_, _/_, _%_, _≤_}
+use lib.Dec.{T, leb, ltb, eqb}
+use lib.ListN.{length, take, drop, getD, replicate}
+use Rattle.bpg_codec.specs.Select.{select}
+use Rattle.bpg_codec.specs.Outcome.{Outcome, ok, error, _>>=_, guard}
+use Rattle.bpg_codec.specs.Codec.{Codec, Exact, atItem, atOwn}
+use Rattle.bpg_codec.specs.Lawful.{Byte}
+use Rattle.bpg_codec.specs.Bits.{Bit, bit}
+use Rattle.bpg_codec.specs.Parts.{sequence, mapped, guarded, sized, item, absent, fixed, same}
+use Rattle.bpg_codec.specs.Regions.{thenRest, itemThenRest, mappedExact, derived, guardedRegion, rest, verbatim, repeated, packed}
+use Rattle.bpg_numbers.specs.Ue7.{ue7}
+use Rattle.bpg_numbers.specs.BitNumbers.{unsigned, expGolomb}
+use Rattle.bpg_format.specs.declared.record.Header.{Header}
+use Rattle.bpg_format.specs.Zero.{zeroHeader}
+use Rattle.bpg_format.specs.Content.{Flags, Extension, Loop, Content, hasAlpha, bitDepth}
+use Rattle.bpg_format.specs.Syntax.{magic, byte4, byte5}
+use Rattle.bpg_format.specs.Rules.{minCbLog2SizeY, ctbLog2SizeY, minTbLog2SizeY, maxTbLog2SizeY, log2MinIpcmCbSizeY, isLoop, hasLoop, noLoop}
+
+-- ---- 1 and 2: magic, byte 4, byte 5
+
+abbrev pub flag : (byte place : ℕ) → Bool
+flag b d = eqb (b / d % 2) 1
+
+abbrev pub flagsOf : (b4 b5 : ℕ) → Flags
+flagsOf b4 b5 =
+    record {
+      pixelFormat = b4 / 32;
+      alpha1 = flag b4 16;
+      bitDepthMinus8 = b4 % 16;
+      colorSpace = b5 / 16;
+      extensionPresent = flag b5 8;
+      alpha2 = flag b5 4;
+      limitedRange = flag b5 2;
+      animation = flag b5 1;
+    }
+
+-- 0 to 4; 0 if the pixel format is 0
+abbrev pub colorSpaceAllowed : Flags → Bool
+colorSpaceAllowed f = leb (f .colorSpace) 4 && (not (eqb (f .pixelFormat) 0) || eqb (f .colorSpace) 0)
+
+pub record FlagsRules (f : Flags) : Type 0 where
+  pub pixel-format : T (leb (f .pixelFormat) 5)
+  pub bit-depth : T (leb (f .bitDepthMinus8) 6)
+  pub color-space : T (colorSpaceAllowed f)
+
+-- fewer than 6 bytes is 2 at place 0; format before depth on byte 4
+unfoldable pub readFlags : List ℕ → Outcome Flags
+readFlags l =
+    let f = flagsOf (getD l 4 0) (getD l 5 0) in
+    guard (leb 6 (length l)) 2 0 >>= λ _.
+    guard (same magic (take 4 l)) 3 0 >>= λ _.
+    guard (leb (f .pixelFormat) 5) 4 4 >>= λ _.
+    guard (leb (f .bitDepthMinus8) 6) 5 4 >>= λ _.
+    guard (colorSpaceAllowed f) 6 5 >>= λ _.
+    ok f
+
+unfoldable pub flags : Codec ℕ Flags
+flags =
+    record {
+      encode = λ f. magic ++ (byte4 f ∷ byte5 f ∷ []);
+      decode = λ i p l. readFlags l >>= λ f. ok (f, p + 6, drop 6 l);
+      Valid = FlagsRules;
+    }
+
+-- ---- 3: width and height are not 0
+
+abbrev pub notZero : ℕ → Bool
+notZero v = not (eqb v 0)
+
+unfoldable pub dimension : Codec ℕ ℕ
+dimension = guarded (ue7 32) notZero 9 atOwn
+
+-- ---- 4 and 5: the extension block
+
+unfoldable pub period : Codec ℕ ℕ
+period = guarded (ue7 16) notZero 12 atOwn
+
+-- loop count, period numerator, period denominator, dummy bytes
+unfoldable pub loopNumbers : Exact ℕ (ℕ × (ℕ × (ℕ × List ℕ)))
+loopNumbers = thenRest (ue7 16) λ _. thenRest period λ _. thenRest period λ _. rest Byte
+
+-- a payload is kept as its bytes; a tag 5 payload must be readable
+unfoldable pub payload : Bool → Exact ℕ (List ℕ)
+payload isLoop = select isLoop (verbatim loopNumbers) (rest Byte)
+
+-- `seen`: an entry with tag 5 stands before it
+unfoldable pub extension : Bool → Codec ℕ Extension
+extension seen =
+    mapped (sequence (ue7 32) λ tag. sized 2 (ue7 32) (guardedRegion (λ _. not (seen && eqb tag 5)) 13 atItem (payload (eqb tag 5))))
+    (λ x. record { tag = x .0; payload = x .1 }) (λ e. (e .tag, e .payload))
+
+abbrev pub seenAfter : Bool → Extension → Bool
+seenAfter seen e = seen || isLoop e
+
+unfoldable pub extensions : Exact ℕ (List Extension)
+extensions = repeated extension seenAfter 11 16 false
+
+unfoldable pub block : Bool → Codec ℕ (List Extension)
+block present = select present (sized 2 (ue7 32) extensions) (absent [])
+
+-- the loop numbers of the tag 5 payload; zero where there is none
+abbrev pub loopFrom : Outcome (ℕ × (ℕ × (ℕ × List ℕ))) → Loop
+loopFrom (ok x) = record { count = x .0; periodNum = x .1 .0; periodDen = x .1 .1 .0 }
+loopFrom (error s o) = noLoop
+
+unfoldable pub loopIn : List ℕ → Loop
+loopIn l = loopFrom (loopNumbers .decode 0 0 l)
+
+unfoldable pub loopOf : List Extension → Loop
+loopOf [] = noLoop
+loopOf (e ∷ es) = select (isLoop e) (loopIn (e .payload)) (loopOf es)
+
+-- ---- 6: HEVC headers
+
+abbrev pub oneBit : Codec Bool Bool
+oneBit = mapped (unsigned 1) (λ v. eqb v 1) bit
+
+-- a field that a flag leaves out has the value e
+abbrev pub optional : {A : Type 0} → Bool → Codec Bool A → A → Codec Bool A
+optional present c e = select present c (absent e)
+
+abbrev pub FieldTuple : Type 0
+FieldTuple =
+    ℕ × (ℕ × (ℕ × (ℕ × (ℕ × (Bool × (Bool × (ℕ × (ℕ × (ℕ × (ℕ × (Bool × (Bool × (Bool × (Bool × (ℕ × List Bool)))))))))))))))
+
+-- the fields in the specification's order
+unfoldable pub fieldSequence : Codec Bool FieldTuple
+fieldSequence =
+    sequence expGolomb λ _. sequence expGolomb λ _. sequence expGolomb λ _. sequence expGolomb λ _. sequence expGolomb λ _.
+    sequence oneBit λ _. sequence oneBit λ pcm.
+    sequence (optional pcm (unsigned 4) 0) λ _. sequence (optional pcm (unsigned 4) 0) λ _.
+    sequence (optional pcm expGolomb 0) λ _. sequence (optional pcm expGolomb 0) λ _. sequence (optional pcm oneBit false) λ _.
+    sequence oneBit λ _. sequence oneBit λ sps.
+    sequence (optional sps oneBit false) λ range. sequence (optional sps (unsigned 7) 0) λ _.
+    optional range (fixed Bit 9 15 atItem) (replicate 9 false)
+
+abbrev pub headerFrom : FieldTuple → Header
+headerFrom x =
+    record {
+      «log2_min_luma_coding_block_size_minus3» = x .0;
+      «log2_diff_max_min_luma_coding_block_size» = x .1 .0;
+      «log2_min_transform_block_size_minus2» = x .1 .1 .0;
+      «log2_diff_max_min_transform_block_size» = x .1 .1 .1 .0;
+      «max_transform_hierarchy_depth_intra» = x .1 .1 .1 .1 .0;
+      «sample_adaptive_offset_enabled_flag» = x .1 .1 .1 .1 .1 .0;
+      «pcm_enabled_flag» = x .1 .1 .1 .1 .1 .1 .0;
+      «pcm_sample_bit_depth_luma_minus1» = x .1 .1 .1 .1 .1 .1 .1 .0;
+      «pcm_sample_bit_depth_chroma_minus1» = x .1 .1 .1 .1 .1 .1 .1 .1 .0;
+      «log2_min_pcm_luma_coding_block_size_minus3» = x .1 .1 .1 .1 .1 .1 .1 .1 .1 .0;
+      «log2_diff_max_min_pcm_luma_coding_block_size» = x .1 .1 .1 .1 .1 .1 .1 .1 .1 .1 .0;
+      «pcm_loop_filter_disabled_flag» = x .1 .1 .1 .1 .1 .1 .1 .1 .1 .1 .1 .0;
+      «strong_intra_smoothing_enabled_flag» = x .1 .1 .1 .1 .1 .1 .1 .1 .1 .1 .1 .1 .0;
+      «sps_extension_present_flag» = x .1 .1 .1 .1 .1 .1 .1 .1 .1 .1 .1 .1 .1 .0;
+      «sps_range_extension_flag» = x .1 .1 .1 .1 .1 .1 .1 .1 .1 .1 .1 .1 .1 .1 .0;
+      «sps_extension_7bits» = x .1 .1 .1 .1 .1 .1 .1 .1 .1 .1 .1 .1 .1 .1 .1 .0;
+      «range_flags» = x .1 .1 .1 .1 .1 .1 .1 .1 .1 .1 .1 .1 .1 .1 .1 .1;
+    }
+
+abbrev pub fieldsOf : Header → FieldTuple
+fieldsOf h =
+    (h .«log2_min_luma_coding_block_size_minus3»,
+    (h .«log2_diff_max_min_luma_coding_block_size»,
+    (h .«log2_min_transform_block_size_minus2»,
+    (h .«log2_diff_max_min_transform_block_size»,
+    (h .«max_transform_hierarchy_depth_intra»,
+    (h .«sample_adaptive_offset_enabled_flag»,
+    (h .«pcm_enabled_flag»,
+    (h .«pcm_sample_bit_depth_luma_minus1»,
+    (h .«pcm_sample_bit_depth_chroma_minus1»,
+    (h .«log2_min_pcm_luma_coding_block_size_minus3»,
+    (h .«log2_diff_max_min_pcm_luma_coding_block_size»,
+    (h .«pcm_loop_filter_disabled_flag»,
+    (h .«strong_intra_smoothing_enabled_flag»,
+    (h .«sps_extension_present_flag»,
+    (h .«sps_range_extension_flag»,
+    (h .«sps_extension_7bits», h .«range_flags»))))))))))))))))
+
+unfoldable pub headerFields : Codec Bool Header
+headerFields = mapped fieldSequence headerFrom fieldsOf
+
+-- refusal 17
+abbrev pub rangeFlag : Header → ℕ → Bool
+rangeFlag h k = getD (h .«range_flags») k false
+
+unfoldable pub noForbiddenBit : Header → Bool
+noForbiddenBit h = eqb (h .«sps_extension_7bits») 0 && (not (rangeFlag h 3) && (not (rangeFlag h 4) && (not (rangeFlag h 6) && not (rangeFlag h 8))))
+
+-- refusal 16
+unfoldable pub pcmAllowed : (depth : ℕ) → Header → Bool
+pcmAllowed depth h =
+    leb (h .«pcm_sample_bit_depth_luma_minus1» + 1) depth
+    && (leb (h .«pcm_sample_bit_depth_chroma_minus1» + 1) depth
+    && (leb (minCbLog2SizeY h) (log2MinIpcmCbSizeY h)
+    && leb (log2MinIpcmCbSizeY h + h .«log2_diff_max_min_pcm_luma_coding_block_size») (ctbLog2SizeY h)))
+
+unfoldable pub hevcAllowed : (depth : ℕ) → Header → Bool
+hevcAllowed depth h =
+    leb 4 (ctbLog2SizeY h)
+    && (leb (ctbLog2SizeY h) 6
+    && (ltb (minTbLog2SizeY h) (minCbLog2SizeY h)
+    && (leb (maxTbLog2SizeY h) (ctbLog2SizeY h)
+    && (leb (h .«max_transform_hierarchy_depth_intra» + minTbLog2SizeY h) (ctbLog2SizeY h)
+    && (not (h .«pcm_enabled_flag») || pcmAllowed depth h)))))
+
+-- length, fits (2), fields and trailing bits (15), 17, 16, each at the header's length
+unfoldable pub header : (depth : ℕ) → Codec ℕ Header
+header depth =
+    guarded (guarded (item (sized 2 (ue7 32) (packed 15 headerFields))) noForbiddenBit 17 atOwn) (hevcAllowed depth) 16 atOwn
+
+unfoldable pub alphaHeader : Flags → Codec ℕ Header
+alphaHeader f = select (hasAlpha f) (header (bitDepth f)) (absent zeroHeader)
+
+-- 6 and 7
+unfoldable pub body : Flags → Exact ℕ (Header × (Header × List ℕ))
+body f = thenRest (alphaHeader f) λ _. thenRest (header (bitDepth f)) λ _. rest Byte
+
+-- ---- the file
+
+-- the data length counts the body, or is zero
+abbrev pub countsBody : (n size : ℕ) → Bool
+countsBody n size = eqb n 0 || eqb n size
+
+abbrev pub Parts : Type 0
+Parts = Flags × (ℕ × (ℕ × (ℕ × (List Extension × (Header × (Header × List ℕ))))))
+
+unfoldable pub parts : Exact ℕ Parts
+parts =
+    guardedRegion (λ size. leb size 16777216) 1 (λ _ _. 0)
+    (thenRest flags λ f.
+    thenRest dimension λ _.
+    thenRest dimension λ _.
+    itemThenRest (ue7 32) λ n.
+    thenRest (block (f .extensionPresent)) λ es.
+    guardedRegion (λ _. not (f .animation) || hasLoop es) 14 (λ _ _. 5)
+    (guardedRegion (countsBody n) 10 atItem
+    (body f)))
+
+unfoldable pub withLoop : Exact ℕ (Parts × Loop)
+withLoop = derived parts (λ x. loopOf (x .1 .1 .1 .1 .0))
+
+abbrev pub contentFrom : Parts × Loop → Content
+contentFrom x =
+    record {
+      flags = x .0 .0;
+      width = x .0 .1 .0;
+      height = x .0 .1 .1 .0;
+      explicitLength = notZero (x .0 .1 .1 .1 .0);
+      extensions = x .0 .1 .1 .1 .1 .0;
+      loop = x .1;
+      alphaHeader = x .0 .1 .1 .1 .1 .1 .0;
+      colorHeader = x .0 .1 .1 .1 .1 .1 .1 .0;
+      pictureData = x .0 .1 .1 .1 .1 .1 .1 .1;
+    }
+
+abbrev pub lengthOf : Content → ℕ
+lengthOf c = select (c .explicitLength) (length (body (c .flags) .encode (c .alphaHeader, (c .colorHeader, c .pictureData)))) 0
+
+abbrev pub partsOf : Content → Parts × Loop
+partsOf c =
+    ((c .flags, (c .width, (c .height, (lengthOf c, (c .extensions, (c .alphaHeader, (c .colorHeader, c .pictureData))))))), c .loop)
+
+unfoldable pub file : Exact ℕ Content
+file = mappedExact withLoop contentFrom partsOf

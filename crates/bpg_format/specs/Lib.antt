@@ -1,0 +1,8 @@
+-- The BPG format, in document 01's order.
+pub mod Zero
+pub mod Content
+pub mod Syntax
+pub mod Rules
+pub mod FileCodec
+pub mod Read
+pub mod Records

@@ -1,0 +1,95 @@
+-- Reading as one chain of steps in document 01's order ("Refusal numbers", reading order), each refusal with its number and place.
+-- It is equal to what the codec of `FileCodec` decodes (proofs/Reading).
+use mathlib.Core.Bool.{Bool, true, false, not, _&&_, _||_}
+use mathlib.Core.List.{List, [], _∷_}
+use Prim.Native.Nat.{ℕ, zero, suc, _+_, _*_}
+use lib.Dec.{leb, ltb, eqb}
+use lib.ListN.{length, take, drop}
+use Rattle.bpg_codec.specs.Select.{select}
+use Rattle.bpg_codec.specs.Outcome.{Outcome, ok, error, _>>=_, guard}
+use Rattle.bpg_codec.specs.Bits.{unpack, allZero}
+use Rattle.bpg_numbers.specs.Ue7.{ue7}
+use Rattle.bpg_format.specs.declared.record.Header.{Header}
+use Rattle.bpg_format.specs.Zero.{zeroHeader}
+use Rattle.bpg_format.specs.Content.{Flags, Extension, Content, hasAlpha, bitDepth}
+use Rattle.bpg_format.specs.Rules.{hasLoop}
+use Rattle.bpg_format.specs.FileCodec.{readFlags, notZero, loopOf, headerFields, noForbiddenBit, hevcAllowed, countsBody}
+
+-- the number at p: 2, 7 or 8 at p
+abbrev pub number : (n p : ℕ) → List ℕ → Outcome (ℕ × ℕ × List ℕ)
+number n p l = ue7 n .decode p p l
+
+-- 5. A tag 5 payload: three numbers, each 12 as its number is read
+unfoldable pub readLoop : (p : ℕ) → List ℕ → Outcome (List ℕ)
+readLoop p l =
+    number 16 p l >>= λ count.
+    number 16 (count .1) (count .2) >>= λ num.
+    guard (notZero (num .0)) 12 (count .1) >>= λ _.
+    number 16 (num .1) (num .2) >>= λ den.
+    guard (notZero (den .0)) 12 (num .1) >>= λ _.
+    ok l
+
+-- 4. Per entry: 11, tag, length, payload fits, 13, its numbers
+unfoldable pub readEntries : (most : ℕ) (seen : Bool) (p : ℕ) → List ℕ → Outcome (List Extension)
+readEntries zero seen p [] = ok []
+readEntries zero seen p (x ∷ l) = error 11 p
+readEntries (suc most) seen p [] = ok []
+readEntries (suc most) seen p (x ∷ l) =
+    number 32 p (x ∷ l) >>= λ tag.
+    number 32 (tag .1) (tag .2) >>= λ size.
+    guard (leb (size .0) (length (size .2))) 2 (tag .1) >>= λ _.
+    guard (not (seen && eqb (tag .0) 5)) 13 p >>= λ _.
+    select (eqb (tag .0) 5) (readLoop (size .1) (take (size .0) (size .2))) (ok (take (size .0) (size .2))) >>= λ payload.
+    readEntries most (seen || eqb (tag .0) 5) (size .1 + size .0) (drop (size .0) (size .2)) >>= λ es.
+    ok (record { tag = tag .0; payload = payload } ∷ es)
+
+-- with the extension flag: its length, the block fits, the entries
+unfoldable pub readBlock : (present : Bool) (p : ℕ) → List ℕ → Outcome (List Extension × ℕ × List ℕ)
+readBlock true p l =
+    number 32 p l >>= λ size.
+    guard (leb (size .0) (length (size .2))) 2 p >>= λ _.
+    readEntries 16 false (size .1) (take (size .0) (size .2)) >>= λ es.
+    ok (es, size .1 + size .0, drop (size .0) (size .2))
+readBlock false p l = ok ([], p, l)
+
+-- 6. Per header: length, fits, 15, 17, 16, all at the header's length
+unfoldable pub readHeader : (depth p : ℕ) → List ℕ → Outcome (Header × ℕ × List ℕ)
+readHeader depth p l =
+    number 32 p l >>= λ size.
+    guard (leb (size .0) (length (size .2))) 2 p >>= λ _.
+    headerFields .decode p (8 * size .1) (unpack (take (size .0) (size .2))) >>= λ h.
+    guard (ltb (length (h .2)) 8 && allZero (h .2)) 15 p >>= λ _.
+    guard (noForbiddenBit (h .0)) 17 p >>= λ _.
+    guard (hevcAllowed depth (h .0)) 16 p >>= λ _.
+    ok (h .0, size .1 + size .0, drop (size .0) (size .2))
+
+unfoldable pub readAlphaHeader : Flags → (p : ℕ) → List ℕ → Outcome (Header × ℕ × List ℕ)
+readAlphaHeader f p l = select (hasAlpha f) (readHeader (bitDepth f) p l) (ok (zeroHeader, p, l))
+
+-- 1; then file order; after the block 14, then 10; the headers
+unfoldable pub readContent : List ℕ → Outcome Content
+readContent l =
+    guard (leb (length l) 16777216) 1 0 >>= λ _.
+    readFlags l >>= λ f.
+    number 32 6 (drop 6 l) >>= λ width.
+    guard (notZero (width .0)) 9 6 >>= λ _.
+    number 32 (width .1) (width .2) >>= λ height.
+    guard (notZero (height .0)) 9 (width .1) >>= λ _.
+    number 32 (height .1) (height .2) >>= λ size.
+    readBlock (f .extensionPresent) (size .1) (size .2) >>= λ es.
+    guard (not (f .animation) || hasLoop (es .0)) 14 5 >>= λ _.
+    guard (countsBody (size .0) (length (es .2))) 10 (height .1) >>= λ _.
+    readAlphaHeader f (es .1) (es .2) >>= λ alpha.
+    readHeader (bitDepth f) (alpha .1) (alpha .2) >>= λ color.
+    ok
+    (record {
+      flags = f;
+      width = width .0;
+      height = height .0;
+      explicitLength = notZero (size .0);
+      extensions = es .0;
+      loop = loopOf (es .0);
+      alphaHeader = alpha .0;
+      colorHeader = color .0;
+      pictureData = color .2;
+    })

@@ -1,0 +1,150 @@
+-- The rules that a content keeps (document 01, "Order of the file" and its HEVC rules), one named fact a rule; and accepted files.
+use mathlib.Core.Path.{_≡_}
+use mathlib.Core.Bool.{Bool, true, false, _||_}
+use mathlib.Core.List.{List, [], _∷_, _++_}
+use mathlib.Core.Logic.{_≢_}
+use Prim.Native.Nat.{ℕ, _+_, _-_, _^_, _≤_, _<_}
+use lib.Dec.{eqb}
+use lib.ListN.{length, getD, replicate}
+use Rattle.bpg_codec.specs.Select.{select}
+use Rattle.bpg_codec.specs.Lawful.{All, Byte}
+use Rattle.bpg_numbers.specs.Ue7.{ue7Bytes}
+use Rattle.bpg_format.specs.declared.record.Header.{Header}
+use Rattle.bpg_format.specs.Content.{Flags, Extension, Loop, Content, hasAlpha, bitDepth}
+use Rattle.bpg_format.specs.Syntax.{fileOf}
+use Rattle.bpg_format.specs.Zero.{zeroHeader}
+
+-- ---- HEVC rules, each header
+
+-- document 01's MinCb, Ctb, MinTb, MaxTb and MinPcm
+module _ (h : Header) where
+  abbrev pub minCbLog2SizeY : ℕ
+  minCbLog2SizeY = h .«log2_min_luma_coding_block_size_minus3» + 3
+
+  abbrev pub ctbLog2SizeY : ℕ
+  ctbLog2SizeY = minCbLog2SizeY + h .«log2_diff_max_min_luma_coding_block_size»
+
+  abbrev pub minTbLog2SizeY : ℕ
+  minTbLog2SizeY = h .«log2_min_transform_block_size_minus2» + 2
+
+  abbrev pub maxTbLog2SizeY : ℕ
+  maxTbLog2SizeY = minTbLog2SizeY + h .«log2_diff_max_min_transform_block_size»
+
+  abbrev pub log2MinIpcmCbSizeY : ℕ
+  log2MinIpcmCbSizeY = h .«log2_min_pcm_luma_coding_block_size_minus3» + 3
+
+-- refusal 16; `depth` is the file's bit depth
+pub record PcmRules (depth : ℕ) (h : Header) : Type 0 where
+  pub luma-depth : h .«pcm_sample_bit_depth_luma_minus1» + 1 ≤ depth
+  pub chroma-depth : h .«pcm_sample_bit_depth_chroma_minus1» + 1 ≤ depth
+  pub min-pcm : minCbLog2SizeY h ≤ log2MinIpcmCbSizeY h
+  pub max-pcm : log2MinIpcmCbSizeY h + h .«log2_diff_max_min_pcm_luma_coding_block_size» ≤ ctbLog2SizeY h
+
+pub record HevcRules (depth : ℕ) (h : Header) : Type 0 where
+  pub ctb-least : 4 ≤ ctbLog2SizeY h
+  pub ctb-most : ctbLog2SizeY h ≤ 6
+  pub min-tb : minTbLog2SizeY h < minCbLog2SizeY h
+  pub max-tb : maxTbLog2SizeY h ≤ ctbLog2SizeY h
+  pub hierarchy-depth : h .«max_transform_hierarchy_depth_intra» + minTbLog2SizeY h ≤ ctbLog2SizeY h
+  pub pcm : h .«pcm_enabled_flag» ≡ true → PcmRules depth h
+
+-- refusal 17: the seven bits; explicit rdpcm, extended precision, high precision offsets, cabac bypass alignment
+pub record ForbiddenBits (h : Header) : Type 0 where
+  pub seven-bits : h .«sps_extension_7bits» ≡ 0
+  pub explicit-rdpcm : getD (h .«range_flags») 3 false ≡ false
+  pub extended-precision : getD (h .«range_flags») 4 false ≡ false
+  pub high-precision-offsets : getD (h .«range_flags») 6 false ≡ false
+  pub cabac-bypass-alignment : getD (h .«range_flags») 8 false ≡ false
+
+-- refusal 15: a field has a code. Refusal 19: an absent field is zero
+abbrev pub Coded : ℕ → Type 0
+Coded v = v < 2 ^ 32 - 1
+
+pub record NoPcm (h : Header) : Type 0 where
+  pub luma-depth : h .«pcm_sample_bit_depth_luma_minus1» ≡ 0
+  pub chroma-depth : h .«pcm_sample_bit_depth_chroma_minus1» ≡ 0
+  pub min-size : h .«log2_min_pcm_luma_coding_block_size_minus3» ≡ 0
+  pub max-size : h .«log2_diff_max_min_pcm_luma_coding_block_size» ≡ 0
+  pub loop-filter : h .«pcm_loop_filter_disabled_flag» ≡ false
+
+pub record NoSpsExtension (h : Header) : Type 0 where
+  pub range-flag : h .«sps_range_extension_flag» ≡ false
+  pub seven-bits : h .«sps_extension_7bits» ≡ 0
+
+pub record FieldRules (h : Header) : Type 0 where
+  pub min-cb : Coded (h .«log2_min_luma_coding_block_size_minus3»)
+  pub diff-cb : Coded (h .«log2_diff_max_min_luma_coding_block_size»)
+  pub min-tb : Coded (h .«log2_min_transform_block_size_minus2»)
+  pub diff-tb : Coded (h .«log2_diff_max_min_transform_block_size»)
+  pub depth : Coded (h .«max_transform_hierarchy_depth_intra»)
+  pub min-pcm : h .«pcm_enabled_flag» ≡ true → Coded (h .«log2_min_pcm_luma_coding_block_size_minus3»)
+  pub diff-pcm : h .«pcm_enabled_flag» ≡ true → Coded (h .«log2_diff_max_min_pcm_luma_coding_block_size»)
+  pub no-pcm : h .«pcm_enabled_flag» ≡ false → NoPcm h
+  pub no-extension : h .«sps_extension_present_flag» ≡ false → NoSpsExtension h
+  pub nine : length (h .«range_flags») ≡ 9
+  pub no-range : h .«sps_range_extension_flag» ≡ false → h .«range_flags» ≡ replicate 9 false
+
+pub record HeaderRules (depth : ℕ) (h : Header) : Type 0 where
+  pub fields : FieldRules h
+  pub forbidden : ForbiddenBits h
+  pub hevc : HevcRules depth h
+
+-- ---- the extension block
+
+-- 5. Loop count, period numerator, period denominator, each ue7(16), both period numbers not 0, then dummy bytes
+pub record LoopPayload (l : List ℕ) (p : Loop) (dummy : List ℕ) : Type 0 where
+  pub is : l ≡ ue7Bytes (p .count) ++ (ue7Bytes (p .periodNum) ++ (ue7Bytes (p .periodDen) ++ dummy))
+  pub count : p .count < 2 ^ 16
+  pub num : p .periodNum < 2 ^ 16
+  pub num-not-zero : p .periodNum ≢ 0
+  pub den : p .periodDen < 2 ^ 16
+  pub den-not-zero : p .periodDen ≢ 0
+  pub bytes : All Byte dummy
+
+abbrev pub isLoop : Extension → Bool
+isLoop e = eqb (e .tag) 5
+
+-- a tag 5 payload holds the file's loop numbers
+pub record ExtensionRules (p : Loop) (e : Extension) : Type 0 where
+  pub tag : e .tag < 2 ^ 32
+  pub bytes : All Byte (e .payload)
+  pub loop : isLoop e ≡ true → (dummy : List ℕ) × LoopPayload (e .payload) p dummy
+
+abbrev pub hasLoop : List Extension → Bool
+hasLoop [] = false
+hasLoop (e ∷ es) = isLoop e || hasLoop es
+
+-- at most one with tag 5
+abbrev pub OneLoop : List Extension → Type 0
+OneLoop [] = Unit {0}
+OneLoop (e ∷ es) = (isLoop e ≡ true → hasLoop es ≡ false) × OneLoop es
+
+abbrev pub noLoop : Loop
+noLoop = record { count = 0; periodNum = 0; periodDen = 0 }
+
+-- ---- the file
+
+pub record Rules (c : Content) : Type 0 where
+  pub pixel-format : c .flags .pixelFormat ≤ 5
+  pub bit-depth : c .flags .bitDepthMinus8 ≤ 6
+  pub color-space : c .flags .colorSpace ≤ 4
+  pub gray : c .flags .pixelFormat ≡ 0 → c .flags .colorSpace ≡ 0
+  pub width : c .width < 2 ^ 32
+  pub width-not-zero : c .width ≢ 0
+  pub height : c .height < 2 ^ 32
+  pub height-not-zero : c .height ≢ 0
+  pub absent-block : c .flags .extensionPresent ≡ false → c .extensions ≡ []
+  pub at-most-16 : length (c .extensions) ≤ 16
+  pub entries : All (ExtensionRules (c .loop)) (c .extensions)
+  pub one-loop : OneLoop (c .extensions)
+  pub no-loop : hasLoop (c .extensions) ≡ false → c .loop ≡ noLoop
+  pub animated : c .flags .animation ≡ true → hasLoop (c .extensions) ≡ true
+  pub no-alpha : hasAlpha (c .flags) ≡ false → c .alphaHeader ≡ zeroHeader
+  pub alpha-header : hasAlpha (c .flags) ≡ true → HeaderRules (bitDepth (c .flags)) (c .alphaHeader)
+  pub color-header : HeaderRules (bitDepth (c .flags)) (c .colorHeader)
+  pub data-bytes : All Byte (c .pictureData)
+  pub size : length (fileOf c) ≤ 16777216
+
+-- a file is accepted when it is the syntax's file of a content that keeps the rules
+abbrev pub Accepted : List ℕ → Type 0
+Accepted f = (c : Content) × Rules c × (f ≡ fileOf c)
