@@ -153,7 +153,7 @@ module _ {S : Type 0} (Token : S → Type 0) (n status : ℕ) (offset : ℕ → 
             subst (Found (fixed Token n status offset) p l) (ok-injective e1) ((all-take Token n l h, len), sym (take-append-drop n l), rw len);
       }
 
-same-equal : (xs ys : List ℕ) → T (same xs ys) → xs ≡ ys
+pub same-equal : (xs ys : List ℕ) → T (same xs ys) → xs ≡ ys
 same-equal [] [] t = refl
 same-equal [] (y ∷ ys) t = absurd t
 same-equal (x ∷ xs) [] t = absurd t

@@ -1,0 +1,62 @@
+-- Reading as a chain of steps is what the codec decodes. Assumes nothing.
+use mathlib.Core.Path.{_≡_, refl, sym, ap, _∙_}
+use mathlib.Core.Bool.{Bool, true, false, not, _&&_, _||_}
+use mathlib.Core.List.{List, [], _∷_}
+use Prim.Native.Nat.{ℕ, zero, suc, _+_, _*_}
+use lib.Dec.{leb, ltb, eqb}
+use lib.ListN.{length, take, drop}
+use Rattle.bpg_codec.specs.Select.{select}
+use Rattle.bpg_codec.specs.Outcome.{Outcome, ok, error, _>>=_, guard}
+use Rattle.bpg_codec.specs.Parts.{sequence, mapped, guarded, sized, item, absent}
+use Rattle.bpg_codec.specs.Regions.{thenRest, itemThenRest, mappedExact, derived, guardedRegion, rest, verbatim, decodeEach, repeated, packed}
+use Rattle.bpg_codec.proofs.Outcome.{bind-assoc}
+use Rattle.bpg_format.specs.declared.record.Header.{Header}
+use Rattle.bpg_format.specs.Zero.{zeroHeader}
+use Rattle.bpg_format.specs.Content.{Flags, Extension, Content, hasAlpha, bitDepth}
+use Rattle.bpg_format.specs.FileCodec.{flags, dimension, period, loopNumbers, payload, extension, seenAfter, extensions, block, header, alphaHeader, body, parts, withLoop, file}
+use Rattle.bpg_format.specs.Read.{readLoop, readEntries, readBlock, readHeader, readAlphaHeader, readContent}
+
+loop-chain : (i p : ℕ) (l : List ℕ) → verbatim loopNumbers .decode i p l ≡ readLoop p l
+unfolding verbatim loopNumbers thenRest period guarded rest readLoop
+loop-chain i p l = simp bind-assoc
+
+payload-chain : (b : Bool) (i p : ℕ) (l : List ℕ) → payload b .decode i p l ≡ select b (readLoop p l) (ok l)
+unfolding payload select rest
+payload-chain true i p l = loop-chain i p l
+payload-chain false i p l = refl
+
+entry-chain : (k : ℕ) (seen : Bool) (p x : ℕ) (l : List ℕ)
+    → ((seen : Bool) (p : ℕ) (l : List ℕ) → decodeEach extension seenAfter 11 k seen p l ≡ readEntries k seen p l)
+    → decodeEach extension seenAfter 11 (suc k) seen p (x ∷ l) ≡ readEntries (suc k) seen p (x ∷ l)
+unfolding extension mapped sequence sized guardedRegion readEntries
+entry-chain k seen p x l ih = simp (bind-assoc, payload-chain, ih)
+
+entries-chain : (k : ℕ) (seen : Bool) (p : ℕ) (l : List ℕ) → decodeEach extension seenAfter 11 k seen p l ≡ readEntries k seen p l
+unfolding readEntries
+entries-chain zero seen p [] = refl
+entries-chain zero seen p (x ∷ l) = refl
+entries-chain (suc k) seen p [] = refl
+entries-chain (suc k) seen p (x ∷ l) = entry-chain k seen p x l (entries-chain k)
+
+pub block-chain : (present : Bool) (i p : ℕ) (l : List ℕ) → block present .decode i p l ≡ readBlock present p l
+unfolding block select readBlock sized absent extensions repeated
+block-chain true i p l = simp entries-chain
+block-chain false i p l = refl
+
+pub header-chain : (depth i p : ℕ) (l : List ℕ) → header depth .decode i p l ≡ readHeader depth p l
+unfolding header guarded item sized packed readHeader
+header-chain depth i p l = simp bind-assoc
+
+alpha-select : (b : Bool) (depth i p : ℕ) (l : List ℕ)
+    → select b (header depth) (absent zeroHeader) .decode i p l ≡ select b (readHeader depth p l) (ok (zeroHeader, p, l))
+unfolding select absent
+alpha-select true depth i p l = header-chain depth i p l
+alpha-select false depth i p l = refl
+
+pub alpha-chain : (f : Flags) (i p : ℕ) (l : List ℕ) → alphaHeader f .decode i p l ≡ readAlphaHeader f p l
+unfolding alphaHeader readAlphaHeader
+alpha-chain f i p l = alpha-select (hasAlpha f) (bitDepth f) i p l
+
+pub content-chain : (l : List ℕ) → file .decode 0 0 l ≡ readContent l
+unfolding file mappedExact withLoop derived parts guardedRegion thenRest itemThenRest flags dimension guarded body rest readContent
+content-chain l = simp (bind-assoc, block-chain, alpha-chain, header-chain)

@@ -1,0 +1,4 @@
+-- The theory of the format.
+pub mod FlagLaws
+pub mod FileLaws
+pub mod Chain
