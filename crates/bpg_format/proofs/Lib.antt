@@ -2,3 +2,6 @@
 pub mod FlagLaws
 pub mod FileLaws
 pub mod Chain
+pub mod SyntaxLaws
+pub mod HeaderRuleLaws
+pub mod RuleLaws
