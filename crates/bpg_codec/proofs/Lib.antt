@@ -9,3 +9,4 @@ pub mod Positions
 pub mod Bits
 pub mod Packed
 pub mod Buffer
+pub mod Refusals

@@ -5,3 +5,5 @@ pub mod Chain
 pub mod SyntaxLaws
 pub mod HeaderRuleLaws
 pub mod RuleLaws
+pub mod ReadingRefusals
+pub mod Reading

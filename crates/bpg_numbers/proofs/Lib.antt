@@ -3,4 +3,5 @@ pub mod Shifts
 pub mod Ue7Laws
 pub mod BitNumberLaws
 pub mod BitBufferLaws
+pub mod Refusals
 pub mod Examples
