@@ -7,3 +7,4 @@ pub mod HeaderRuleLaws
 pub mod RuleLaws
 pub mod ReadingRefusals
 pub mod Reading
+pub mod RecordLaws

@@ -6,3 +6,6 @@ pub mod Rules
 pub mod FileCodec
 pub mod Read
 pub mod Records
+pub mod Parts
+pub mod Write
+pub mod Pictures

@@ -1,0 +1,182 @@
+-- The picture of a content, and the canonical form (document 01, "Record and picture": picture, tidy form).
+use mathlib.Core.Bool.{Bool, true, false, not}
+use mathlib.Core.List.{List, [], _∷_, _++_, map}
+use mathlib.Core.Path.{_≡_}
+use Prim.Native.Nat.{ℕ}
+use lib.Dec.{leb}
+use lib.ListN.{length}
+use Rattle.bpg_codec.specs.Select.{select}
+use Rattle.bpg_codec.specs.Outcome.{Outcome, ok, error, _>>=_, guard}
+use Rattle.bpg_codec.specs.Bits.{allZero}
+use Rattle.bpg_numbers.specs.Ue7.{ue7Bytes}
+use Rattle.bpg_format.specs.declared.record.Header.{Header}
+use Rattle.bpg_format.specs.declared.answer.Written.{Written}
+use Rattle.bpg_format.specs.Content.{Flags, Extension, Loop, Content}
+use Rattle.bpg_format.specs.Syntax.{fileOf}
+use Rattle.bpg_format.specs.Rules.{isLoop, Rules}
+use Rattle.bpg_format.specs.Read.{readContent}
+use Rattle.bpg_format.specs.Write.{empty, writtenAnswer, writtenBuffer}
+
+-- ---- the picture: the content without the four encoding choices
+
+-- a header without (c): SPS extension present flag and range flag
+pub record PictureHeader : Type 0 where
+  pub log2MinCb : ℕ
+  pub log2DiffCb : ℕ
+  pub log2MinTb : ℕ
+  pub log2DiffTb : ℕ
+  pub hierarchyDepth : ℕ
+  pub sampleAdaptiveOffset : Bool
+  pub pcm : Bool
+  pub pcmLumaDepth : ℕ
+  pub pcmChromaDepth : ℕ
+  pub log2MinPcm : ℕ
+  pub log2DiffPcm : ℕ
+  pub pcmLoopFilterDisabled : Bool
+  pub strongIntraSmoothing : Bool
+  pub sevenBits : ℕ
+  pub rangeFlags : List Bool
+
+-- without (a) explicit length and (b) the extension flag. An entry with tag 5 has no payload here: its numbers are `loop`, and its
+-- dummy bytes are (d)
+pub record Picture : Type 0 where
+  pub pixelFormat : ℕ
+  pub alpha1 : Bool
+  pub bitDepthMinus8 : ℕ
+  pub colorSpace : ℕ
+  pub alpha2 : Bool
+  pub limitedRange : Bool
+  pub animation : Bool
+  pub width : ℕ
+  pub height : ℕ
+  pub entries : List Extension
+  pub loop : Loop
+  pub alphaHeader : PictureHeader
+  pub colorHeader : PictureHeader
+  pub pictureData : List ℕ
+
+abbrev pub pictureHeader : Header → PictureHeader
+pictureHeader h =
+    record {
+      log2MinCb = h .«log2_min_luma_coding_block_size_minus3»;
+      log2DiffCb = h .«log2_diff_max_min_luma_coding_block_size»;
+      log2MinTb = h .«log2_min_transform_block_size_minus2»;
+      log2DiffTb = h .«log2_diff_max_min_transform_block_size»;
+      hierarchyDepth = h .«max_transform_hierarchy_depth_intra»;
+      sampleAdaptiveOffset = h .«sample_adaptive_offset_enabled_flag»;
+      pcm = h .«pcm_enabled_flag»;
+      pcmLumaDepth = h .«pcm_sample_bit_depth_luma_minus1»;
+      pcmChromaDepth = h .«pcm_sample_bit_depth_chroma_minus1»;
+      log2MinPcm = h .«log2_min_pcm_luma_coding_block_size_minus3»;
+      log2DiffPcm = h .«log2_diff_max_min_pcm_luma_coding_block_size»;
+      pcmLoopFilterDisabled = h .«pcm_loop_filter_disabled_flag»;
+      strongIntraSmoothing = h .«strong_intra_smoothing_enabled_flag»;
+      sevenBits = h .«sps_extension_7bits»;
+      rangeFlags = h .«range_flags»;
+    }
+
+abbrev pub pictureEntry : Extension → Extension
+pictureEntry e = record { tag = e .tag; payload = select (isLoop e) [] (e .payload) }
+
+unfoldable pub pictureOf : Content → Picture
+pictureOf c =
+    record {
+      pixelFormat = c .flags .pixelFormat;
+      alpha1 = c .flags .alpha1;
+      bitDepthMinus8 = c .flags .bitDepthMinus8;
+      colorSpace = c .flags .colorSpace;
+      alpha2 = c .flags .alpha2;
+      limitedRange = c .flags .limitedRange;
+      animation = c .flags .animation;
+      width = c .width;
+      height = c .height;
+      entries = map pictureEntry (c .extensions);
+      loop = c .loop;
+      alphaHeader = pictureHeader (c .alphaHeader);
+      colorHeader = pictureHeader (c .colorHeader);
+      pictureData = c .pictureData;
+    }
+
+-- ---- the content of a picture with one choice of each
+
+-- (c) the SPS extension absent where all nine flags are zero, else present with the range flag
+abbrev pub chosenHeader : PictureHeader → Header
+chosenHeader h =
+    record {
+      «log2_min_luma_coding_block_size_minus3» = h .log2MinCb;
+      «log2_diff_max_min_luma_coding_block_size» = h .log2DiffCb;
+      «log2_min_transform_block_size_minus2» = h .log2MinTb;
+      «log2_diff_max_min_transform_block_size» = h .log2DiffTb;
+      «max_transform_hierarchy_depth_intra» = h .hierarchyDepth;
+      «sample_adaptive_offset_enabled_flag» = h .sampleAdaptiveOffset;
+      «pcm_enabled_flag» = h .pcm;
+      «pcm_sample_bit_depth_luma_minus1» = h .pcmLumaDepth;
+      «pcm_sample_bit_depth_chroma_minus1» = h .pcmChromaDepth;
+      «log2_min_pcm_luma_coding_block_size_minus3» = h .log2MinPcm;
+      «log2_diff_max_min_pcm_luma_coding_block_size» = h .log2DiffPcm;
+      «pcm_loop_filter_disabled_flag» = h .pcmLoopFilterDisabled;
+      «strong_intra_smoothing_enabled_flag» = h .strongIntraSmoothing;
+      «sps_extension_present_flag» = not (allZero (h .rangeFlags));
+      «sps_range_extension_flag» = not (allZero (h .rangeFlags));
+      «sps_extension_7bits» = h .sevenBits;
+      «range_flags» = h .rangeFlags;
+    }
+
+abbrev pub loopBytes : Loop → List ℕ
+loopBytes p = ue7Bytes (p .count) ++ (ue7Bytes (p .periodNum) ++ ue7Bytes (p .periodDen))
+
+-- (d) no dummy bytes
+abbrev pub chosenEntry : Loop → Extension → Extension
+chosenEntry p e = record { tag = e .tag; payload = select (isLoop e) (loopBytes p) (e .payload) }
+
+-- (a) open; (b) no extension flag where there is no entry
+unfoldable pub chosen : Picture → Content
+chosen p =
+    record {
+      flags =
+          record {
+            pixelFormat = p .pixelFormat;
+            alpha1 = p .alpha1;
+            bitDepthMinus8 = p .bitDepthMinus8;
+            colorSpace = p .colorSpace;
+            extensionPresent = not (empty (p .entries));
+            alpha2 = p .alpha2;
+            limitedRange = p .limitedRange;
+            animation = p .animation;
+          };
+      width = p .width;
+      height = p .height;
+      explicitLength = false;
+      extensions = map (chosenEntry (p .loop)) (p .entries);
+      loop = p .loop;
+      alphaHeader = chosenHeader (p .alphaHeader);
+      colorHeader = chosenHeader (p .colorHeader);
+      pictureData = p .pictureData;
+    }
+
+-- the canonical form of a content: the file of its picture with these choices
+unfoldable pub canonicalBytes : Content → List ℕ
+canonicalBytes c = fileOf (chosen (pictureOf c))
+
+-- ---- pictures and canonical forms of accepted files
+
+-- p is the picture of the file: that of the content whose file it is
+pub record Shows (f : List ℕ) (p : Picture) : Type 0 where
+  pub content : Content
+  pub rules : Rules content
+  pub is : f ≡ fileOf content
+  pub picture : pictureOf content ≡ p
+
+-- ---- what canonicalizing answers: the reader's refusals, then 20
+
+unfoldable pub canonicalOutcome : (room : ℕ) → List ℕ → Outcome (List ℕ)
+canonicalOutcome room f =
+    readContent f >>= λ c.
+    guard (leb (length (canonicalBytes c)) room) 20 0 >>= λ _.
+    ok (canonicalBytes c)
+
+unfoldable pub canonicalFile : (f out : List ℕ) → Written
+canonicalFile f out = writtenAnswer (canonicalOutcome (length out) f)
+
+unfoldable pub canonicalBuffer : (f out : List ℕ) → List ℕ
+canonicalBuffer f out = writtenBuffer (canonicalOutcome (length out) f) out

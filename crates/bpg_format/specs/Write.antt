@@ -1,0 +1,168 @@
+-- Writing (document 01, "Refusal numbers", writer): 11, 18, 19, then the rules in file order, 1, 20; always at place 0.
+use mathlib.Core.Bool.{Bool, true, false, not, _&&_, _||_}
+use mathlib.Core.List.{List, [], _∷_, _++_}
+use Prim.Native.Nat.{ℕ, _+_, _-_, _^_}
+use lib.Dec.{leb, ltb, eqb}
+use lib.ListN.{length, drop, getD}
+use Rattle.bpg_codec.specs.Select.{select}
+use Rattle.bpg_codec.specs.Outcome.{Outcome, ok, error, _>>=_, guard}
+use Rattle.bpg_codec.specs.Bits.{allZero}
+use Rattle.bpg_format.specs.declared.record.Range.{Range}
+use Rattle.bpg_format.specs.declared.record.Entry.{Entry}
+use Rattle.bpg_format.specs.declared.record.Header.{Header}
+use Rattle.bpg_format.specs.declared.record.Record.{Record}
+use Rattle.bpg_format.specs.declared.answer.Written.{Written}
+use Rattle.bpg_format.specs.Zero.{zeroHeader, refusedWritten}
+use Rattle.bpg_format.specs.Content.{Flags, Extension, Loop, Content, hasAlpha, bitDepth}
+use Rattle.bpg_format.specs.Syntax.{fileOf}
+use Rattle.bpg_format.specs.Rules.{isLoop, hasLoop}
+use Rattle.bpg_format.specs.FileCodec.{colorSpaceAllowed, notZero, loopNumbers, loopFrom, noForbiddenBit, hevcAllowed}
+use Rattle.bpg_format.specs.Records.{usedEntries, contentOf}
+
+-- ---- 18: a range outside the source
+
+abbrev pub inSource : List ℕ → Range → Bool
+inSource source r = leb (r .start + r .length) (length source)
+
+abbrev pub entriesInSource : List ℕ → List Entry → Bool
+entriesInSource source [] = true
+entriesInSource source (e ∷ es) = inSource source (e .payload) && entriesInSource source es
+
+unfoldable pub rangesInSource : List ℕ → Record → Bool
+rangesInSource source r = entriesInSource source (usedEntries r) && inSource source (r .«data»)
+
+-- ---- 19: unused or absent field not zero, presence flags that contradict
+
+abbrev pub zeroEntries : List Entry → Bool
+zeroEntries [] = true
+zeroEntries (e ∷ es) = (eqb (e .tag) 0 && (eqb (e .payload .start) 0 && eqb (e .payload .length) 0)) && zeroEntries es
+
+unfoldable pub unusedZero : Record → Bool
+unusedZero r = zeroEntries (drop (r .«entry_count») (r .entries))
+
+abbrev pub pcmZero : Header → Bool
+pcmZero h =
+    eqb (h .«pcm_sample_bit_depth_luma_minus1») 0
+    && (eqb (h .«pcm_sample_bit_depth_chroma_minus1») 0
+    && (eqb (h .«log2_min_pcm_luma_coding_block_size_minus3») 0
+    && (eqb (h .«log2_diff_max_min_pcm_luma_coding_block_size») 0
+    && not (h .«pcm_loop_filter_disabled_flag»))))
+
+-- PCM fields without PCM; range flag or seven bits without the SPS extension; one of the nine without the range flag
+unfoldable pub absentZero : Header → Bool
+absentZero h =
+    (h .«pcm_enabled_flag» || pcmZero h)
+    && ((h .«sps_extension_present_flag» || (not (h .«sps_range_extension_flag») && eqb (h .«sps_extension_7bits») 0))
+    && (h .«sps_range_extension_flag» || allZero (h .«range_flags»)))
+
+unfoldable pub headerZero : Header → Bool
+headerZero h =
+    eqb (h .«log2_min_luma_coding_block_size_minus3») 0
+    && (eqb (h .«log2_diff_max_min_luma_coding_block_size») 0
+    && (eqb (h .«log2_min_transform_block_size_minus2») 0
+    && (eqb (h .«log2_diff_max_min_transform_block_size») 0
+    && (eqb (h .«max_transform_hierarchy_depth_intra») 0
+    && (not (h .«sample_adaptive_offset_enabled_flag»)
+    && (not (h .«pcm_enabled_flag»)
+    && (not (h .«strong_intra_smoothing_enabled_flag»)
+    && (not (h .«sps_extension_present_flag») && absentZero h))))))))
+
+abbrev pub loopZero : Loop → Bool
+loopZero p = eqb (p .count) 0 && (eqb (p .periodNum) 0 && eqb (p .periodDen) 0)
+
+abbrev pub empty : List Extension → Bool
+empty [] = true
+empty (e ∷ es) = false
+
+-- entries without the extension flag; loop numbers without a tag 5 entry; an alpha header without alpha
+unfoldable pub consistent : Content → Bool
+consistent c =
+    (c .flags .extensionPresent || empty (c .extensions))
+    && ((hasLoop (c .extensions) || loopZero (c .loop))
+    && ((hasAlpha (c .flags) || headerZero (c .alphaHeader))
+    && (absentZero (c .alphaHeader) && absentZero (c .colorHeader))))
+
+-- ---- the rules in file order
+
+abbrev pub sameLoop : Loop → Loop → Bool
+sameLoop p q = eqb (p .count) (q .count) && (eqb (p .periodNum) (q .periodNum) && eqb (p .periodDen) (q .periodDen))
+
+-- a refusal of reading, at place 0
+abbrev pub atZero : {A : Type 0} → Outcome A → Outcome A
+atZero (ok a) = ok a
+atZero (error s o) = error s 0
+
+-- a tag 5 payload's own refusals, then 19 if the loop numbers differ
+unfoldable pub judgeLoop : Loop → List ℕ → Outcome (Unit {0})
+judgeLoop p l = atZero (loopNumbers .decode 0 0 l) >>= λ x. guard (sameLoop p (loopFrom (ok x))) 19 0
+
+unfoldable pub judgeEntries : Loop → (seen : Bool) → List Extension → Outcome (Unit {0})
+judgeEntries p seen [] = ok tt
+judgeEntries p seen (e ∷ es) =
+    guard (not (seen && isLoop e)) 13 0 >>= λ _.
+    select (isLoop e) (judgeLoop p (e .payload)) (ok tt) >>= λ _.
+    judgeEntries p (seen || isLoop e) es
+
+-- a ue(v) field of 2^32 - 1 is 15
+abbrev pub coded : ℕ → Bool
+coded v = ltb v (2 ^ 32 - 1)
+
+unfoldable pub fieldsCoded : Header → Bool
+fieldsCoded h =
+    coded (h .«log2_min_luma_coding_block_size_minus3»)
+    && (coded (h .«log2_diff_max_min_luma_coding_block_size»)
+    && (coded (h .«log2_min_transform_block_size_minus2»)
+    && (coded (h .«log2_diff_max_min_transform_block_size»)
+    && (coded (h .«max_transform_hierarchy_depth_intra»)
+    && (not (h .«pcm_enabled_flag»)
+    || (coded (h .«log2_min_pcm_luma_coding_block_size_minus3») && coded (h .«log2_diff_max_min_pcm_luma_coding_block_size»)))))))
+
+unfoldable pub judgeHeader : (depth : ℕ) → Header → Outcome (Unit {0})
+judgeHeader depth h =
+    guard (fieldsCoded h) 15 0 >>= λ _.
+    guard (noForbiddenBit h) 17 0 >>= λ _.
+    guard (hevcAllowed depth h) 16 0
+
+unfoldable pub judgeContent : Content → Outcome (Unit {0})
+judgeContent c =
+    guard (leb (c .flags .pixelFormat) 5) 4 0 >>= λ _.
+    guard (leb (c .flags .bitDepthMinus8) 6) 5 0 >>= λ _.
+    guard (colorSpaceAllowed (c .flags)) 6 0 >>= λ _.
+    guard (notZero (c .width)) 9 0 >>= λ _.
+    guard (notZero (c .height)) 9 0 >>= λ _.
+    judgeEntries (c .loop) false (c .extensions) >>= λ _.
+    guard (not (c .flags .animation) || hasLoop (c .extensions)) 14 0 >>= λ _.
+    select (hasAlpha (c .flags)) (judgeHeader (bitDepth (c .flags)) (c .alphaHeader)) (ok tt) >>= λ _.
+    judgeHeader (bitDepth (c .flags)) (c .colorHeader)
+
+-- ---- what writing answers, and what stands in the buffer
+
+-- the bytes of a content, where they are not too many and the buffer holds them
+unfoldable pub sizedFile : (room : ℕ) → Content → Outcome (List ℕ)
+sizedFile room c =
+    guard (leb (length (fileOf c)) 16777216) 1 0 >>= λ _.
+    guard (leb (length (fileOf c)) room) 20 0 >>= λ _.
+    ok (fileOf c)
+
+unfoldable pub writeOutcome : (room : ℕ) → Record → (source : List ℕ) → Outcome (List ℕ)
+writeOutcome room r source =
+    guard (leb (r .«entry_count») 16) 11 0 >>= λ _.
+    guard (rangesInSource source r) 18 0 >>= λ _.
+    guard (unusedZero r && consistent (contentOf r source)) 19 0 >>= λ _.
+    judgeContent (contentOf r source) >>= λ _.
+    sizedFile room (contentOf r source)
+
+-- a success writes its bytes from the start of the buffer; a refusal leaves it as it was
+abbrev pub writtenAnswer : Outcome (List ℕ) → Written
+writtenAnswer (ok l) = record { status = 0; offset = 0; count = length l }
+writtenAnswer (error s o) = refusedWritten s o
+
+abbrev pub writtenBuffer : Outcome (List ℕ) → List ℕ → List ℕ
+writtenBuffer (ok l) out = l ++ drop (length l) out
+writtenBuffer (error s o) out = out
+
+unfoldable pub writeFile : Record → (source out : List ℕ) → Written
+writeFile r source out = writtenAnswer (writeOutcome (length out) r source)
+
+unfoldable pub writeBuffer : Record → (source out : List ℕ) → List ℕ
+writeBuffer r source out = writtenBuffer (writeOutcome (length out) r source) out
