@@ -21,7 +21,7 @@ pub allZero-zeros : (n : ℕ) → T (allZero (zeros n))
 allZero-zeros zero = tt
 allZero-zeros (suc n) = allZero-zeros n
 
-zeros-allZero : (l : List Bool) → T (allZero l) → l ≡ zeros (length l)
+pub zeros-allZero : (l : List Bool) → T (allZero l) → l ≡ zeros (length l)
 zeros-allZero [] t = refl
 zeros-allZero (true ∷ l) t = absurd t
 zeros-allZero (false ∷ l) t = ap (λ (x : List Bool). false ∷ x) (zeros-allZero l t)

@@ -8,3 +8,5 @@ pub mod RuleLaws
 pub mod ReadingRefusals
 pub mod Reading
 pub mod RecordLaws
+pub mod RangeLaws
+pub mod CanonicalLaws

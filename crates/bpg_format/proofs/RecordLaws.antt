@@ -92,11 +92,11 @@ used-entries p es = take-at (entriesAt p es) _ (length es) (entries-length p es)
 unfoldable pub beforeData : Content → List ℕ
 beforeData c = beforeEntries c ++ (blockBytes (c .extensions) ++ (select (hasAlpha (c .flags)) (headerBytes (c .alphaHeader)) [] ++ headerBytes (c .colorHeader)))
 
-data-file : (c : Content) → (c .flags .extensionPresent ≡ false → c .extensions ≡ []) → fileOf c ≡ beforeData c ++ c .pictureData
+pub data-file : (c : Content) → (c .flags .extensionPresent ≡ false → c .extensions ≡ []) → fileOf c ≡ beforeData c ++ c .pictureData
 unfolding beforeData bodyBytes
 data-file c n = file-entries c n ∙ simp append-assoc
 
-data-length : (c : Content) → length (beforeData c) ≡ dataStart c
+pub data-length : (c : Content) → length (beforeData c) ≡ dataStart c
 unfolding beforeData dataStart
 data-length c =
     let s = select-length (hasAlpha (c .flags)) (headerBytes (c .alphaHeader)) in

@@ -28,7 +28,7 @@ use Rattle.bpg_format.proofs.FileLaws.{loopNumbers-lawful}
 use Rattle.bpg_format.proofs.SyntaxLaws.{payload-encode, each-encode, block-encode, body-encode, length-encode, file-encode}
 use Rattle.bpg_format.proofs.HeaderRuleLaws.{unless, unless-full, header-sound, header-full}
 
-bool-apart {ℓ} : {P : Type ℓ} {b : Bool} → b ≡ true → b ≡ false → P
+pub bool-apart {ℓ} : {P : Type ℓ} {b : Bool} → b ≡ true → b ≡ false → P
 bool-apart e f = absurd (let z : _≡_ {A = ℕ} 0 1 = cc in omega arith)
 
 -- ---- a tag 5 payload
@@ -144,12 +144,12 @@ neither : (a b : Bool) → (a || b) ≡ false → (a ≡ false) × (b ≡ false)
 neither true b e = bool-apart refl e
 neither false b e = (refl, e)
 
-one-of {ℓ} : {P : Type ℓ} (a b : Bool) → (a || b) ≡ true → (a ≡ true → P) → (b ≡ true → P) → P
+pub one-of {ℓ} : {P : Type ℓ} (a b : Bool) → (a || b) ≡ true → (a ≡ true → P) → (b ≡ true → P) → P
 one-of true b e f g = f refl
 one-of false b e f g = g e
 
 -- by whether an entry has tag 5
-by-tag {ℓ} : {P : Type ℓ} (b : Bool) → (b ≡ true → P) → (b ≡ false → P) → P
+pub by-tag {ℓ} : {P : Type ℓ} (b : Bool) → (b ≡ true → P) → (b ≡ false → P) → P
 by-tag true f g = f refl
 by-tag false f g = g refl
 
@@ -262,7 +262,7 @@ module _ (c : Content) where
   abbrev front : List ℕ
   front = select (hasAlpha (c .flags)) (headerBytes (c .alphaHeader)) []
 
-  body-size : length (bodyBytes c) ≡ length front + length (headerBytes (c .colorHeader)) + length (c .pictureData)
+  pub body-size : length (bodyBytes c) ≡ length front + length (headerBytes (c .colorHeader)) + length (c .pictureData)
   unfolding bodyBytes
   body-size =
       length-append front (headerBytes (c .colorHeader) ++ c .pictureData)

@@ -1,0 +1,283 @@
+-- The canonical form: it keeps the rules and the picture, and is not longer. Assumes nothing.
+use mathlib.Core.Path.{_≡_, refl, sym, ap, ap₂, _∙_, subst}
+use mathlib.Core.Bool.{Bool, true, false, not, _||_}
+use mathlib.Core.List.{List, [], _∷_, _++_, append-nil, map, cons≢nil}
+use Prim.Native.Nat.{ℕ, _+_, _^_, _≤_, _<_}
+use native.Mathlib.Omega.{arith}
+use lib.Dec.{T, eqb}
+use lib.ListN.{length, replicate, length-append, length-map}
+use Rattle.bpg_codec.specs.Select.{select}
+use Rattle.bpg_codec.specs.Lawful.{All, Byte}
+use Rattle.bpg_codec.specs.Bits.{bits, zeros, allZero, padded}
+use Rattle.bpg_codec.proofs.Select.{select-true, select-false, is-true, is-false}
+use Rattle.bpg_codec.proofs.Tokens.{all-append}
+use Rattle.bpg_codec.proofs.Bits.{length-bits}
+use Rattle.bpg_codec.proofs.Packed.{length-padded, zeros-allZero}
+use Rattle.bpg_numbers.specs.Ue7.{ue7Bytes}
+use Rattle.bpg_numbers.specs.BitNumbers.{expGolombBits}
+use Rattle.bpg_numbers.proofs.Ue7Laws.{size-grows, bytes-ue7}
+use Rattle.bpg_format.specs.declared.record.Header.{Header}
+use Rattle.bpg_format.specs.Zero.{zeroHeader}
+use Rattle.bpg_format.specs.Content.{Flags, Extension, Loop, Content, hasAlpha, bitDepth}
+use Rattle.bpg_format.specs.Syntax.{extensionBytes, blockBytes, extensionPart, pcmBits, spsExtensionBits, headerBits, headerBytes, bodyBytes, dataLength, fileOf}
+use Rattle.bpg_format.specs.Rules.{FieldRules, ForbiddenBits, HevcRules, HeaderRules, LoopPayload, isLoop, ExtensionRules, hasLoop, OneLoop, Rules}
+use Rattle.bpg_format.specs.Write.{empty}
+use Rattle.bpg_format.specs.Pictures.{PictureHeader, Picture, pictureHeader, pictureEntry, pictureOf, chosenHeader, loopBytes, chosenEntry, chosen}
+use Rattle.bpg_format.proofs.RuleLaws.{bool-apart, by-tag, file-size, body-size}
+
+-- ---- headers
+
+abbrev canonical : Header → Header
+canonical h = chosenHeader (pictureHeader h)
+
+all-zero-nine : (l : List Bool) → length l ≡ 9 → not (allZero l) ≡ false → l ≡ replicate 9 false
+all-zero-nine l n e = zeros-allZero l (by (allZero l) e) ∙ ap zeros n
+  where
+    by : (b : Bool) → not b ≡ false → T b
+    by true e = tt
+    by false e = bool-apart refl e
+
+nine-zero : (l : List Bool) → l ≡ replicate 9 false → not (allZero l) ≡ false
+nine-zero l e = rw e
+
+header-rules : (depth : ℕ) (h : Header) → HeaderRules depth h → HeaderRules depth (canonical h)
+header-rules depth h r =
+    let f = r .fields in
+    record {
+      fields =
+          record {
+            min-cb = f .min-cb;
+            diff-cb = f .diff-cb;
+            min-tb = f .min-tb;
+            diff-tb = f .diff-tb;
+            depth = f .depth;
+            min-pcm = f .min-pcm;
+            diff-pcm = f .diff-pcm;
+            no-pcm = λ e. let n = f .no-pcm e in record {
+              luma-depth = n .luma-depth;
+              chroma-depth = n .chroma-depth;
+              min-size = n .min-size;
+              max-size = n .max-size;
+              loop-filter = n .loop-filter;
+            };
+            no-extension = λ e. record { range-flag = e; seven-bits = r .forbidden .seven-bits };
+            nine = f .nine;
+            no-range = all-zero-nine (h .«range_flags») (f .nine);
+          };
+      forbidden =
+          record {
+            seven-bits = r .forbidden .seven-bits;
+            explicit-rdpcm = r .forbidden .explicit-rdpcm;
+            extended-precision = r .forbidden .extended-precision;
+            high-precision-offsets = r .forbidden .high-precision-offsets;
+            cabac-bypass-alignment = r .forbidden .cabac-bypass-alignment;
+          };
+      hevc =
+          record {
+            ctb-least = r .hevc .ctb-least;
+            ctb-most = r .hevc .ctb-most;
+            min-tb = r .hevc .min-tb;
+            max-tb = r .hevc .max-tb;
+            hierarchy-depth = r .hevc .hierarchy-depth;
+            pcm = λ e. let n = r .hevc .pcm e in record { luma-depth = n .luma-depth; chroma-depth = n .chroma-depth; min-pcm = n .min-pcm; max-pcm = n .max-pcm };
+          };
+    }
+
+-- the bits of the SPS extension: none where the nine flags are zero, and else both parts were there before
+abbrev extensionSize : Header → ℕ
+extensionSize h = length (select (h .«sps_extension_present_flag») (spsExtensionBits h) []) + length (select (h .«sps_range_extension_flag») (h .«range_flags») [])
+
+size-none : (h : Header) → h .«sps_extension_present_flag» ≡ false → h .«sps_range_extension_flag» ≡ false → extensionSize h ≡ 0
+size-none h a b = rw (select-false (spsExtensionBits h) [] a, select-false (h .«range_flags») [] b)
+
+size-both : (h : Header) → h .«sps_extension_present_flag» ≡ true → h .«sps_range_extension_flag» ≡ true → extensionSize h ≡ 8 + length (h .«range_flags»)
+size-both h a b = rw (select-true (spsExtensionBits h) [] a, select-true (h .«range_flags») [] b, length-bits 7 (h .«sps_extension_7bits»))
+
+extension-shorter : (h : Header) → FieldRules h → extensionSize (canonical h) ≤ extensionSize h
+extension-shorter h f =
+    by-tag (not (allZero (h .«range_flags»)))
+    (λ e.
+    let range : h .«sps_range_extension_flag» ≡ true = by-tag (h .«sps_range_extension_flag») (λ b. b) (λ b. bool-apart e (nine-zero _ (f .no-range b))) in
+    let sps : h .«sps_extension_present_flag» ≡ true = by-tag (h .«sps_extension_present_flag») (λ b. b) (λ b. bool-apart range (f .no-extension b .range-flag)) in
+    omega (arith, size-both (canonical h) e e, size-both h sps range))
+    (λ e. omega (arith, size-none (canonical h) e e))
+
+bits-shorter : (h : Header) → FieldRules h → length (headerBits (canonical h)) ≤ length (headerBits h)
+unfolding headerBits
+bits-shorter h f = let s = extension-shorter h f in simp length-append (omega arith)
+
+header-shorter : (h : Header) → FieldRules h → length (headerBytes (canonical h)) ≤ length (headerBytes h)
+unfolding headerBytes
+header-shorter h f =
+    let s = bits-shorter h f in
+    let p : length (padded (headerBits (canonical h))) ≤ length (padded (headerBits h)) = rw (length-padded (headerBits (canonical h)), length-padded (headerBits h)) (omega arith) in
+    rw (length-append (ue7Bytes (length (padded (headerBits (canonical h))))), length-append (ue7Bytes (length (padded (headerBits h)))))
+    (omega (arith, size-grows _ _ p))
+
+-- ---- entries
+
+abbrev canonicalEntry : Loop → Extension → Extension
+canonicalEntry p e = chosenEntry p (pictureEntry e)
+
+module _ (p : Loop) where
+  entry-loop : (e : Extension) → isLoop e ≡ true → canonicalEntry p e .payload ≡ loopBytes p
+  entry-loop e l = select-true _ _ l
+
+  entry-other : (e : Extension) → isLoop e ≡ false → canonicalEntry p e .payload ≡ e .payload
+  entry-other e l = select-false _ _ l ∙ select-false _ _ l
+
+  loop-payload : (l dummy : List ℕ) → LoopPayload l p dummy → LoopPayload (loopBytes p) p []
+  loop-payload l dummy r =
+      record {
+        is = rw append-nil;
+        count = r .count;
+        num = r .num;
+        num-not-zero = r .num-not-zero;
+        den = r .den;
+        den-not-zero = r .den-not-zero;
+        bytes = tt;
+      }
+
+  loop-bytes : All Byte (loopBytes p)
+  loop-bytes =
+      all-append Byte (ue7Bytes (p .count)) _ (bytes-ue7 (p .count))
+      (all-append Byte (ue7Bytes (p .periodNum)) (ue7Bytes (p .periodDen)) (bytes-ue7 (p .periodNum)) (bytes-ue7 (p .periodDen)))
+
+  entry-rules : (e : Extension) → ExtensionRules p e → ExtensionRules p (canonicalEntry p e)
+  entry-rules e r =
+      by-tag (isLoop e)
+      (λ l. let d = r .loop l in record {
+        tag = r .tag;
+        bytes = rw (entry-loop e l) loop-bytes;
+        loop = λ _. ([], rw (entry-loop e l) (loop-payload (e .payload) (d .0) (d .1)));
+      })
+      (λ l. record {
+        tag = r .tag;
+        bytes = rw (entry-other e l) (r .bytes);
+        loop = λ k. bool-apart k l;
+      })
+
+  entry-shorter : (e : Extension) → ExtensionRules p e → length (canonicalEntry p e .payload) ≤ length (e .payload)
+  entry-shorter e r =
+      by-tag (isLoop e)
+      (λ l. let d = r .loop l in rw (entry-loop e l, d .1 .is) (simp length-append (omega arith)))
+      (λ l. rw (entry-other e l) (omega arith))
+
+  -- ---- all entries
+
+  abbrev canonicalEntries : List Extension → List Extension
+  canonicalEntries es = map (chosenEntry p) (map pictureEntry es)
+
+  entries-rules : (es : List Extension) → All (ExtensionRules p) es → All (ExtensionRules p) (canonicalEntries es)
+  entries-rules [] r = tt
+  entries-rules (e ∷ es) r = (entry-rules e (r .0), entries-rules es (r .1))
+
+  entries-loop : (es : List Extension) → hasLoop (canonicalEntries es) ≡ hasLoop es
+  entries-loop [] = refl
+  entries-loop (e ∷ es) = ap (λ (b : Bool). isLoop e || b) (entries-loop es)
+
+  entries-one : (es : List Extension) → OneLoop es → OneLoop (canonicalEntries es)
+  entries-one [] o = tt
+  entries-one (e ∷ es) o = ((λ l. entries-loop es ∙ o .0 l), entries-one es (o .1))
+
+  entries-shorter : (es : List Extension) → All (ExtensionRules p) es → length (blockBytes (canonicalEntries es)) ≤ length (blockBytes es)
+  entries-shorter [] r = omega arith
+  entries-shorter (e ∷ es) r =
+      let s = entry-shorter e (r .0) in
+      let n = size-grows (length (canonicalEntry p e .payload)) (length (e .payload)) s in
+      let ih = entries-shorter es (r .1) in
+      simp length-append (omega arith)
+
+  payload-same : (e : Extension) → pictureEntry (canonicalEntry p e) .payload ≡ pictureEntry e .payload
+  payload-same e =
+      by-tag (isLoop e) (λ l. select-true _ _ l ∙ sym (select-true _ _ l)) (λ l. select-false _ _ l ∙ entry-other e l ∙ sym (select-false _ _ l))
+
+  entries-same : (es : List Extension) → map pictureEntry (canonicalEntries es) ≡ map pictureEntry es
+  entries-same [] = refl
+  entries-same (e ∷ es) =
+      ap₂ _∷_ (ap {B = Extension} (λ (l : List ℕ). record { tag = e .tag; payload = l }) (payload-same e)) (entries-same es)
+
+-- ---- the content
+
+abbrev canonicalContent : Content → Content
+canonicalContent c = chosen (pictureOf c)
+
+pub same-picture : (c : Content) → pictureOf (canonicalContent c) ≡ pictureOf c
+unfolding pictureOf chosen
+same-picture c = rw (entries-same (c .loop) (c .extensions))
+
+-- with no header where there is no alpha plane
+select-shorter : (b : Bool) (l m : List ℕ) → (b ≡ true → length l ≤ length m) → length (select b l []) ≤ length (select b m [])
+unfolding select
+select-shorter true l m h = h refl
+select-shorter false l m h = omega arith
+
+body-shorter : (c : Content) → Rules c → length (bodyBytes (canonicalContent c)) ≤ length (bodyBytes c)
+unfolding pictureOf chosen
+body-shorter c r =
+    omega (
+      arith,
+      body-size c,
+      body-size (chosen (pictureOf c)),
+      header-shorter (c .colorHeader) (r .color-header .fields),
+      select-shorter (hasAlpha (c .flags)) (headerBytes (canonical (c .alphaHeader))) (headerBytes (c .alphaHeader)) (λ a. header-shorter (c .alphaHeader) (r .alpha-header a .fields)),
+    )
+
+-- the block goes where there is no entry, and is not longer where there is one
+part-shorter : (b : Bool) (p : Loop) (es : List Extension) → (b ≡ false → es ≡ []) → All (ExtensionRules p) es
+    → length (extensionPart (not (empty (map pictureEntry es))) (canonicalEntries p es)) ≤ length (extensionPart b es)
+unfolding extensionPart select
+part-shorter b p [] n r = omega arith
+part-shorter true p (e ∷ es) n r =
+    let s = entries-shorter p (e ∷ es) r in
+    let g = size-grows (length (blockBytes (canonicalEntries p (e ∷ es)))) (length (blockBytes (e ∷ es))) s in
+    rw (length-append (ue7Bytes (length (blockBytes (canonicalEntries p (e ∷ es))))), length-append (ue7Bytes (length (blockBytes (e ∷ es))))) (omega arith)
+part-shorter false p (e ∷ es) n r = absurd (cons≢nil (n refl))
+
+open-length : (c : Content) → dataLength (canonicalContent c) ≡ 0
+unfolding dataLength chosen
+open-length c = select-false _ _ refl
+
+pub shorter : (c : Content) → Rules c → length (fileOf (canonicalContent c)) ≤ length (fileOf c)
+unfolding pictureOf chosen
+shorter c r =
+    omega (
+      arith,
+      file-size c,
+      file-size (chosen (pictureOf c)),
+      size-grows 0 (dataLength c) (omega arith),
+      ap (λ (n : ℕ). length (ue7Bytes n)) (open-length c),
+      part-shorter (c .flags .extensionPresent) (c .loop) (c .extensions) (r .absent-block) (r .entries),
+      body-shorter c r,
+    )
+
+no-entries : (p : Loop) (es : List Extension) → not (empty (map pictureEntry es)) ≡ false → canonicalEntries p es ≡ []
+no-entries p [] e = refl
+no-entries p (x ∷ es) e = bool-apart refl e
+
+pub canonical-rules : (c : Content) → Rules c → Rules (canonicalContent c)
+unfolding pictureOf chosen
+canonical-rules c r =
+    let depth = bitDepth (c .flags) in
+    let loops = entries-loop (c .loop) (c .extensions) in
+    record {
+      pixel-format = r .pixel-format;
+      bit-depth = r .bit-depth;
+      color-space = r .color-space;
+      gray = r .gray;
+      width = r .width;
+      width-not-zero = r .width-not-zero;
+      height = r .height;
+      height-not-zero = r .height-not-zero;
+      absent-block = no-entries (c .loop) (c .extensions);
+      at-most-16 = omega (arith, r .at-most-16, length-map (map pictureEntry (c .extensions)) (chosenEntry (c .loop)), length-map (c .extensions) pictureEntry);
+      entries = entries-rules (c .loop) (c .extensions) (r .entries);
+      one-loop = entries-one (c .loop) (c .extensions) (r .one-loop);
+      no-loop = λ h. r .no-loop (sym loops ∙ h);
+      animated = λ a. loops ∙ r .animated a;
+      no-alpha = λ a. ap canonical (r .no-alpha a);
+      alpha-header = λ a. header-rules depth (c .alphaHeader) (r .alpha-header a);
+      color-header = header-rules depth (c .colorHeader) (r .color-header);
+      data-bytes = r .data-bytes;
+      size = omega (arith, shorter c r, r .size);
+    }

@@ -1,0 +1,88 @@
+-- Payloads and data of a file lie in it in order, and no two share a byte. Assumes nothing.
+use mathlib.Core.Path.{_≡_, refl, sym, ap, _∙_, subst}
+use mathlib.Core.Bool.{Bool, true, false}
+use mathlib.Core.List.{List, [], _∷_, _++_, map}
+use Prim.Native.Nat.{ℕ, zero, suc, _+_, _≤_, _<_}
+use native.Mathlib.Omega.{arith}
+use lib.ListN.{length, getD, length-append}
+use Rattle.bpg_numbers.specs.Ue7.{ue7Bytes}
+use Rattle.bpg_codec.specs.Select.{select}
+use Rattle.bpg_codec.proofs.Lists.{either-way}
+use Rattle.bpg_format.specs.declared.record.Range.{Range}
+use Rattle.bpg_format.specs.declared.record.Entry.{Entry}
+use Rattle.bpg_format.specs.Zero.{range}
+use Rattle.bpg_format.specs.Content.{Extension, Content, hasAlpha}
+use Rattle.bpg_format.specs.Syntax.{extensionBytes, blockBytes, headerBytes, fileOf}
+use Rattle.bpg_format.specs.Rules.{Rules}
+use Rattle.bpg_format.specs.Records.{entriesAt, blockStart, dataStart, recordOf, usedEntries}
+use Rattle.bpg_format.specs.Parts.{rangesOf, rangeEnd, InOrder, Inside}
+use Rattle.bpg_format.proofs.RecordLaws.{used-entries, beforeData, data-file, data-length}
+
+abbrev payloads : List Entry → List Range
+payloads es = map (λ (e : Entry). e .payload) es
+
+-- each starts at or after the end of the one before, from p on, and the last ends by e
+abbrev Ascending : ℕ → List Range → ℕ → Type 0
+Ascending p [] e = p ≤ e
+Ascending p (r ∷ rs) e = (p ≤ r .start) × Ascending (rangeEnd r) rs e
+
+later : (p q : ℕ) (rs : List Range) (e : ℕ) → q ≤ p → Ascending p rs e → Ascending q rs e
+later p q [] e h a = omega arith
+later p q (r ∷ rs) e h a = (omega arith, a .1)
+
+ends : (p : ℕ) (rs : List Range) (e : ℕ) → Ascending p rs e → p ≤ e
+ends p [] e a = a
+ends p (r ∷ rs) e a = omega (arith, a .0, ends (rangeEnd r) rs e (a .1))
+
+starts-after : (p : ℕ) (rs : List Range) (e j : ℕ) → Ascending p rs e → j < length rs → p ≤ getD rs j (range 0 0) .start
+starts-after p [] e j a h = absurd (omega arith)
+starts-after p (r ∷ rs) e zero a h = a .0
+starts-after p (r ∷ rs) e (suc j) a h = omega (arith, a .0, starts-after (rangeEnd r) rs e j (a .1) (omega arith))
+
+in-order : (p : ℕ) (rs : List Range) (e : ℕ) → Ascending p rs e → InOrder rs e
+in-order p rs e a = record { apart = apart p rs a; within = within p rs a }
+  where
+    apart : (p : ℕ) (rs : List Range) → Ascending p rs e → (i j : ℕ) → i < j → j < length rs → rangeEnd (getD rs i (range 0 0)) ≤ getD rs j (range 0 0) .start
+    apart p [] a i j h k = absurd (omega arith)
+    apart p (r ∷ rs) a i zero h k = absurd (omega arith)
+    apart p (r ∷ rs) a zero (suc j) h k = starts-after (rangeEnd r) rs e j (a .1) (omega arith)
+    apart p (r ∷ rs) a (suc i) (suc j) h k = apart (rangeEnd r) rs (a .1) i j (omega arith) (omega arith)
+
+    within : (p : ℕ) (rs : List Range) → Ascending p rs e → (i : ℕ) → i < length rs → rangeEnd (getD rs i (range 0 0)) ≤ e
+    within p [] a i h = absurd (omega arith)
+    within p (r ∷ rs) a zero h = ends (rangeEnd r) rs e (a .1)
+    within p (r ∷ rs) a (suc i) h = within (rangeEnd r) rs (a .1) i (omega arith)
+
+-- ---- the ranges of a file
+
+entries-ascend : (es : List Extension) (p q e : ℕ) (d : Range) → p + length (blockBytes es) ≤ d .start → rangeEnd d ≤ e → q ≤ p
+    → Ascending q (payloads (entriesAt p es) ++ (d ∷ [])) e
+entries-ascend [] p q e d h k l = (omega arith, k)
+entries-ascend (x ∷ es) p q e d h k l =
+    let tag = ue7Bytes (x .tag) in
+    let size = ue7Bytes (length (x .payload)) in
+    let n1 = length-append (extensionBytes x) (blockBytes es) in
+    let n2 = length-append tag (size ++ x .payload) in
+    let n3 = length-append size (x .payload) in
+    (omega arith, entries-ascend es (p + length tag + length size + length (x .payload)) _ e d (omega arith) k (omega arith))
+
+start-after : (c : Content) → blockStart c + length (blockBytes (c .extensions)) ≤ dataStart c
+unfolding dataStart
+start-after c = omega arith
+
+pub ranges-in-order : (c : Content) → Rules c → InOrder (rangesOf (recordOf c)) (length (fileOf c))
+unfolding recordOf
+ranges-in-order c r =
+    let d = range (dataStart c) (length (c .pictureData)) in
+    let file : length (fileOf c) ≡ dataStart c + length (c .pictureData) =
+    ap length (data-file c (r .absent-block)) ∙ length-append (beforeData c) (c .pictureData) ∙ ap (λ (n : ℕ). n + length (c .pictureData)) (data-length c) in
+    in-order 0 _ _
+    (subst (λ (es : List Entry). Ascending 0 (payloads es ++ (d ∷ [])) (length (fileOf c))) (sym (used-entries (blockStart c) (c .extensions)))
+    (entries-ascend (c .extensions) (blockStart c) 0 (length (fileOf c)) d (start-after c) (omega arith) (omega arith)))
+
+-- an offset that lies in two of them lies in one and the same
+pub one-range : (rs : List Range) (size offset i j : ℕ) → InOrder rs size → i < length rs → j < length rs
+    → Inside offset (getD rs i (range 0 0)) → Inside offset (getD rs j (range 0 0)) → i ≡ j
+one-range rs size offset i j o hi hj a b =
+    either-way i j (λ h. either-way j i (λ k. omega arith) (λ k. absurd (omega (arith, o .apart i j k hj, a .before-end, b .after-start))))
+    (λ h. absurd (omega (arith, o .apart j i h hi, b .before-end, a .after-start)))
