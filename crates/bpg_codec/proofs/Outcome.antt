@@ -33,6 +33,10 @@ pub guard-true : {B : Type 0} (t : Bool) (s o : ℕ) (k : Outcome B) → T t →
 guard-true true s o k h = refl
 guard-true false s o k h = absurd h
 
+pub guard-holds : (t : Bool) (s o : ℕ) {u : Unit {0}} → guard t s o ≡ ok u → T t
+guard-holds true s o e = tt
+guard-holds false s o e = absurd (error-not-ok e)
+
 -- the decoded value and the offset after it, where something was left
 pub unlocate : {A S P : Type 0} (m : Outcome (A × ℕ × List S)) {a : A} {p : ℕ} → located m ≡ ok (a, p) → ((r : List S) → m ≡ ok (a, p, r) → P) → P
 unlocate {A} {S} (ok x) e f = f (x .2) (subst (λ (t : A × ℕ). _≡_ {A = Outcome (A × ℕ × List S)} (ok x) (ok (t .0, t .1, x .2))) (ok-injective e) refl)

@@ -10,3 +10,5 @@ pub mod Reading
 pub mod RecordLaws
 pub mod RangeLaws
 pub mod CanonicalLaws
+pub mod WriteLaws
+pub mod Writing

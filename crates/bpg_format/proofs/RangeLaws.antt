@@ -66,16 +66,19 @@ entries-ascend (x ∷ es) p q e d h k l =
     let n3 = length-append size (x .payload) in
     (omega arith, entries-ascend es (p + length tag + length size + length (x .payload)) _ e d (omega arith) k (omega arith))
 
-start-after : (c : Content) → blockStart c + length (blockBytes (c .extensions)) ≤ dataStart c
+pub start-after : (c : Content) → blockStart c + length (blockBytes (c .extensions)) ≤ dataStart c
 unfolding dataStart
 start-after c = omega arith
+
+pub data-end : (c : Content) → Rules c → length (fileOf c) ≡ dataStart c + length (c .pictureData)
+data-end c r =
+    ap length (data-file c (r .absent-block)) ∙ length-append (beforeData c) (c .pictureData) ∙ ap (λ (n : ℕ). n + length (c .pictureData)) (data-length c)
 
 pub ranges-in-order : (c : Content) → Rules c → InOrder (rangesOf (recordOf c)) (length (fileOf c))
 unfolding recordOf
 ranges-in-order c r =
     let d = range (dataStart c) (length (c .pictureData)) in
-    let file : length (fileOf c) ≡ dataStart c + length (c .pictureData) =
-    ap length (data-file c (r .absent-block)) ∙ length-append (beforeData c) (c .pictureData) ∙ ap (λ (n : ℕ). n + length (c .pictureData)) (data-length c) in
+    let file = data-end c r in
     in-order 0 _ _
     (subst (λ (es : List Entry). Ascending 0 (payloads es ++ (d ∷ [])) (length (fileOf c))) (sym (used-entries (blockStart c) (c .extensions)))
     (entries-ascend (c .extensions) (blockStart c) 0 (length (fileOf c)) d (start-after c) (omega arith) (omega arith)))

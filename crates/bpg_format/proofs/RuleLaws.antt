@@ -33,13 +33,13 @@ bool-apart e f = absurd (let z : _≡_ {A = ℕ} 0 1 = cc in omega arith)
 
 -- ---- a tag 5 payload
 
-abbrev Numbers : Type 0
+abbrev pub Numbers : Type 0
 Numbers = ℕ × (ℕ × (ℕ × List ℕ))
 
-abbrev loopOfNumbers : Numbers → Loop
+abbrev pub loopOfNumbers : Numbers → Loop
 loopOfNumbers x = record { count = x .0; periodNum = x .1 .0; periodDen = x .1 .1 .0 }
 
-numbers-sound : (x : Numbers) (l : List ℕ) → loopNumbers .Valid x → l ≡ loopNumbers .encode x → LoopPayload l (loopOfNumbers x) (x .1 .1 .1)
+pub numbers-sound : (x : Numbers) (l : List ℕ) → loopNumbers .Valid x → l ≡ loopNumbers .encode x → LoopPayload l (loopOfNumbers x) (x .1 .1 .1)
 unfolding loopNumbers thenRest period guarded rest
 numbers-sound x l v e =
     record {
@@ -52,10 +52,10 @@ numbers-sound x l v e =
       bytes = v .1 .1 .1;
     }
 
-abbrev numbersOf : Loop → List ℕ → Numbers
+abbrev pub numbersOf : Loop → List ℕ → Numbers
 numbersOf p dummy = (p .count, (p .periodNum, (p .periodDen, dummy)))
 
-numbers-full : (l : List ℕ) (p : Loop) (dummy : List ℕ) → LoopPayload l p dummy
+pub numbers-full : (l : List ℕ) (p : Loop) (dummy : List ℕ) → LoopPayload l p dummy
     → loopNumbers .Valid (numbersOf p dummy) × (l ≡ loopNumbers .encode (numbersOf p dummy))
 unfolding loopNumbers thenRest period guarded rest
 numbers-full l p dummy r =
@@ -109,11 +109,11 @@ entry-full seen e t n p s = (t, ((n, p), rw (payload-encode (eqb (e .tag) 5) (e 
 abbrev EachValid : Bool → List Extension → Type 0
 EachValid seen es = ValidEach extension seenAfter 11 seen es
 
-none-seen : (seen b : Bool) → T (not (seen && b)) → seen ≡ true → b ≡ false
+pub none-seen : (seen b : Bool) → T (not (seen && b)) → seen ≡ true → b ≡ false
 none-seen true b t e = is-false b t
 none-seen false b t e = bool-apart e refl
 
-seen-none : (seen b : Bool) → (seen ≡ true → b ≡ false) → T (not (seen && b))
+pub seen-none : (seen b : Bool) → (seen ≡ true → b ≡ false) → T (not (seen && b))
 seen-none true true f = bool-apart refl (f refl)
 seen-none true false f = tt
 seen-none false b f = tt
@@ -140,7 +140,7 @@ no-entries : loopOf [] ≡ noLoop
 unfolding loopOf
 no-entries = refl
 
-neither : (a b : Bool) → (a || b) ≡ false → (a ≡ false) × (b ≡ false)
+pub neither : (a b : Bool) → (a || b) ≡ false → (a ≡ false) × (b ≡ false)
 neither true b e = bool-apart refl e
 neither false b e = (refl, e)
 
@@ -221,12 +221,12 @@ block-full false es n v h s = n refl
 
 -- ---- the flags
 
-flags-sound : (f : Flags) → FlagsRules f → (f .pixelFormat ≡ 0 → f .colorSpace ≡ 0)
+pub flags-sound : (f : Flags) → FlagsRules f → (f .pixelFormat ≡ 0 → f .colorSpace ≡ 0)
 flags-sound f v e =
     let t = and-right (leb (f .colorSpace) 4) _ (v .color-space) in
     eqb-yes (rw (eq-eqb _ _ e) at t)
 
-flags-full : (f : Flags) → f .pixelFormat ≤ 5 → f .bitDepthMinus8 ≤ 6 → f .colorSpace ≤ 4 → (f .pixelFormat ≡ 0 → f .colorSpace ≡ 0) → FlagsRules f
+pub flags-full : (f : Flags) → f .pixelFormat ≤ 5 → f .bitDepthMinus8 ≤ 6 → f .colorSpace ≤ 4 → (f .pixelFormat ≡ 0 → f .colorSpace ≡ 0) → FlagsRules f
 flags-full f a b c g = record { pixel-format = le→leb _ _ a; bit-depth = le→leb _ _ b; color-space = rw (le-leb _ _ c) (unless-full (eqb (f .pixelFormat) 0) (eqb (f .colorSpace) 0) (λ e. yes-eqb (g (eqb-true _ _ e)))) }
 
 -- ---- the alpha plane's header

@@ -1,21 +1,23 @@
 -- Writing (document 01, "Refusal numbers", writer): 11, 18, 19, then the rules in file order, 1, 20; always at place 0.
 use mathlib.Core.Bool.{Bool, true, false, not, _&&_, _||_}
 use mathlib.Core.List.{List, [], _∷_, _++_}
-use Prim.Native.Nat.{ℕ, _+_, _-_, _^_}
+use mathlib.Core.Path.{_≡_}
+use Prim.Native.Nat.{ℕ, _+_, _-_, _^_, _≤_, _<_}
 use lib.Dec.{leb, ltb, eqb}
 use lib.ListN.{length, drop, getD}
 use Rattle.bpg_codec.specs.Select.{select}
 use Rattle.bpg_codec.specs.Outcome.{Outcome, ok, error, _>>=_, guard}
+use Rattle.bpg_codec.specs.Lawful.{All}
 use Rattle.bpg_codec.specs.Bits.{allZero}
 use Rattle.bpg_format.specs.declared.record.Range.{Range}
 use Rattle.bpg_format.specs.declared.record.Entry.{Entry}
 use Rattle.bpg_format.specs.declared.record.Header.{Header}
 use Rattle.bpg_format.specs.declared.record.Record.{Record}
 use Rattle.bpg_format.specs.declared.answer.Written.{Written}
-use Rattle.bpg_format.specs.Zero.{zeroHeader, refusedWritten}
+use Rattle.bpg_format.specs.Zero.{zeroEntry, zeroHeader, refusedWritten}
 use Rattle.bpg_format.specs.Content.{Flags, Extension, Loop, Content, hasAlpha, bitDepth}
 use Rattle.bpg_format.specs.Syntax.{fileOf}
-use Rattle.bpg_format.specs.Rules.{isLoop, hasLoop}
+use Rattle.bpg_format.specs.Rules.{isLoop, hasLoop, Rules}
 use Rattle.bpg_format.specs.FileCodec.{colorSpaceAllowed, notZero, loopNumbers, loopFrom, noForbiddenBit, hevcAllowed}
 use Rattle.bpg_format.specs.Records.{usedEntries, contentOf}
 
@@ -33,9 +35,12 @@ rangesInSource source r = entriesInSource source (usedEntries r) && inSource sou
 
 -- ---- 19: unused or absent field not zero, presence flags that contradict
 
+abbrev pub isZero : Entry → Bool
+isZero e = eqb (e .tag) 0 && (eqb (e .payload .start) 0 && eqb (e .payload .length) 0)
+
 abbrev pub zeroEntries : List Entry → Bool
 zeroEntries [] = true
-zeroEntries (e ∷ es) = (eqb (e .tag) 0 && (eqb (e .payload .start) 0 && eqb (e .payload .length) 0)) && zeroEntries es
+zeroEntries (e ∷ es) = isZero e && zeroEntries es
 
 unfoldable pub unusedZero : Record → Bool
 unusedZero r = zeroEntries (drop (r .«entry_count») (r .entries))
@@ -166,3 +171,23 @@ writeFile r source out = writtenAnswer (writeOutcome (length out) r source)
 
 unfoldable pub writeBuffer : Record → (source out : List ℕ) → List ℕ
 writeBuffer r source out = writtenBuffer (writeOutcome (length out) r source) out
+
+-- ---- the records that are written
+
+-- what a record's types give: a number of each width, arrays of their lengths
+pub record Typed (r : Record) : Type 0 where
+  pub width : r .«picture_width» < 2 ^ 32
+  pub height : r .«picture_height» < 2 ^ 32
+  pub tags : All (λ (e : Entry). e .tag < 2 ^ 32) (r .entries)
+  pub alpha-nine : length (getD (r .headers) 0 zeroHeader .«range_flags») ≡ 9
+  pub color-nine : length (getD (r .headers) 1 zeroHeader .«range_flags») ≡ 9
+
+-- a record that is written: its count is within the limit, the ranges in use lie in the source, unused entries are zero, its content keeps
+-- the rules (absent fields are zero among them), and the buffer holds its file
+pub record Writable (room : ℕ) (r : Record) (source : List ℕ) : Type 0 where
+  pub few : r .«entry_count» ≤ 16
+  pub payloads : All (λ (e : Entry). e .payload .start + e .payload .length ≤ length source) (usedEntries r)
+  pub data-range : r .«data» .start + r .«data» .length ≤ length source
+  pub unused : All (λ (e : Entry). e ≡ zeroEntry) (drop (r .«entry_count») (r .entries))
+  pub rules : Rules (contentOf r source)
+  pub holds : length (fileOf (contentOf r source)) ≤ room
