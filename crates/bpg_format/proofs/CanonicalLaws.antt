@@ -1,7 +1,7 @@
 -- The canonical form: it keeps the rules and the picture, and is not longer. Assumes nothing.
 use mathlib.Core.Path.{_≡_, refl, sym, ap, ap₂, _∙_, subst}
 use mathlib.Core.Bool.{Bool, true, false, not, _||_}
-use mathlib.Core.List.{List, [], _∷_, _++_, append-nil, map, cons≢nil}
+use mathlib.Core.List.{List, [], _∷_, _++_, map, cons≢nil}
 use Prim.Native.Nat.{ℕ, _+_, _^_, _≤_, _<_}
 use native.Mathlib.Omega.{arith}
 use lib.Dec.{T, eqb}
@@ -22,13 +22,13 @@ use Rattle.bpg_format.specs.Content.{Flags, Extension, Loop, Content, ha
 use Rattle.bpg_format.specs.Syntax.{extensionBytes, blockBytes, extensionPart, pcmBits, spsExtensionBits, headerBits, headerBytes, bodyBytes, dataLength, fileOf}
 use Rattle.bpg_format.specs.Rules.{FieldRules, ForbiddenBits, HevcRules, HeaderRules, LoopPayload, isLoop, ExtensionRules, hasLoop, OneLoop, Rules}
 use Rattle.bpg_format.specs.Write.{empty}
-use Rattle.bpg_format.specs.Pictures.{PictureHeader, Picture, pictureHeader, pictureEntry, pictureOf, chosenHeader, loopBytes, chosenEntry, chosen}
+use Rattle.bpg_format.specs.Pictures.{PictureHeader, Picture, Choices, pictureHeader, pictureEntry, pictureOf, headerWith, needsRange, loopBytes, entryWith, withChoices, canonicalChoices, canonicalContent}
 use Rattle.bpg_format.proofs.RuleLaws.{bool-apart, by-tag, file-size, body-size}
 
 -- ---- headers
 
 abbrev canonical : Header → Header
-canonical h = chosenHeader (pictureHeader h)
+canonical h = headerWith (needsRange (pictureHeader h)) (needsRange (pictureHeader h)) (pictureHeader h)
 
 all-zero-nine : (l : List Bool) → length l ≡ 9 → not (allZero l) ≡ false → l ≡ replicate 9 false
 all-zero-nine l n e = zeros-allZero l (by (allZero l) e) ∙ ap zeros n
@@ -117,19 +117,19 @@ header-shorter h f =
 -- ---- entries
 
 abbrev canonicalEntry : Loop → Extension → Extension
-canonicalEntry p e = chosenEntry p (pictureEntry e)
+canonicalEntry p e = entryWith p [] (pictureEntry e)
 
 module _ (p : Loop) where
-  entry-loop : (e : Extension) → isLoop e ≡ true → canonicalEntry p e .payload ≡ loopBytes p
+  entry-loop : (e : Extension) → isLoop e ≡ true → canonicalEntry p e .payload ≡ loopBytes p []
   entry-loop e l = select-true _ _ l
 
   entry-other : (e : Extension) → isLoop e ≡ false → canonicalEntry p e .payload ≡ e .payload
   entry-other e l = select-false _ _ l ∙ select-false _ _ l
 
-  loop-payload : (l dummy : List ℕ) → LoopPayload l p dummy → LoopPayload (loopBytes p) p []
+  loop-payload : (l dummy : List ℕ) → LoopPayload l p dummy → LoopPayload (loopBytes p []) p []
   loop-payload l dummy r =
       record {
-        is = rw append-nil;
+        is = refl;
         count = r .count;
         num = r .num;
         num-not-zero = r .num-not-zero;
@@ -138,10 +138,10 @@ module _ (p : Loop) where
         bytes = tt;
       }
 
-  loop-bytes : All Byte (loopBytes p)
+  loop-bytes : All Byte (loopBytes p [])
   loop-bytes =
       all-append Byte (ue7Bytes (p .count)) _ (bytes-ue7 (p .count))
-      (all-append Byte (ue7Bytes (p .periodNum)) (ue7Bytes (p .periodDen)) (bytes-ue7 (p .periodNum)) (bytes-ue7 (p .periodDen)))
+      (all-append Byte (ue7Bytes (p .periodNum)) _ (bytes-ue7 (p .periodNum)) (all-append Byte (ue7Bytes (p .periodDen)) [] (bytes-ue7 (p .periodDen)) tt))
 
   entry-rules : (e : Extension) → ExtensionRules p e → ExtensionRules p (canonicalEntry p e)
   entry-rules e r =
@@ -166,7 +166,7 @@ module _ (p : Loop) where
   -- ---- all entries
 
   abbrev canonicalEntries : List Extension → List Extension
-  canonicalEntries es = map (chosenEntry p) (map pictureEntry es)
+  canonicalEntries es = map (entryWith p []) (map pictureEntry es)
 
   entries-rules : (es : List Extension) → All (ExtensionRules p) es → All (ExtensionRules p) (canonicalEntries es)
   entries-rules [] r = tt
@@ -199,11 +199,8 @@ module _ (p : Loop) where
 
 -- ---- the content
 
-abbrev canonicalContent : Content → Content
-canonicalContent c = chosen (pictureOf c)
-
 pub same-picture : (c : Content) → pictureOf (canonicalContent c) ≡ pictureOf c
-unfolding pictureOf chosen
+unfolding pictureOf withChoices canonicalContent
 same-picture c = rw (entries-same (c .loop) (c .extensions))
 
 -- with no header where there is no alpha plane
@@ -213,12 +210,12 @@ select-shorter true l m h = h refl
 select-shorter false l m h = omega arith
 
 body-shorter : (c : Content) → Rules c → length (bodyBytes (canonicalContent c)) ≤ length (bodyBytes c)
-unfolding pictureOf chosen
+unfolding pictureOf withChoices canonicalContent
 body-shorter c r =
     omega (
       arith,
       body-size c,
-      body-size (chosen (pictureOf c)),
+      body-size (canonicalContent c),
       header-shorter (c .colorHeader) (r .color-header .fields),
       select-shorter (hasAlpha (c .flags)) (headerBytes (canonical (c .alphaHeader))) (headerBytes (c .alphaHeader)) (λ a. header-shorter (c .alphaHeader) (r .alpha-header a .fields)),
     )
@@ -235,16 +232,16 @@ part-shorter true p (e ∷ es) n r =
 part-shorter false p (e ∷ es) n r = absurd (cons≢nil (n refl))
 
 open-length : (c : Content) → dataLength (canonicalContent c) ≡ 0
-unfolding dataLength chosen
+unfolding dataLength withChoices canonicalContent
 open-length c = select-false _ _ refl
 
 pub shorter : (c : Content) → Rules c → length (fileOf (canonicalContent c)) ≤ length (fileOf c)
-unfolding pictureOf chosen
+unfolding pictureOf withChoices canonicalContent
 shorter c r =
     omega (
       arith,
       file-size c,
-      file-size (chosen (pictureOf c)),
+      file-size (canonicalContent c),
       size-grows 0 (dataLength c) (omega arith),
       ap (λ (n : ℕ). length (ue7Bytes n)) (open-length c),
       part-shorter (c .flags .extensionPresent) (c .loop) (c .extensions) (r .absent-block) (r .entries),
@@ -256,7 +253,7 @@ no-entries p [] e = refl
 no-entries p (x ∷ es) e = bool-apart refl e
 
 pub canonical-rules : (c : Content) → Rules c → Rules (canonicalContent c)
-unfolding pictureOf chosen
+unfolding pictureOf withChoices canonicalContent
 canonical-rules c r =
     let depth = bitDepth (c .flags) in
     let loops = entries-loop (c .loop) (c .extensions) in
@@ -270,7 +267,7 @@ canonical-rules c r =
       height = r .height;
       height-not-zero = r .height-not-zero;
       absent-block = no-entries (c .loop) (c .extensions);
-      at-most-16 = omega (arith, r .at-most-16, length-map (map pictureEntry (c .extensions)) (chosenEntry (c .loop)), length-map (c .extensions) pictureEntry);
+      at-most-16 = omega (arith, r .at-most-16, length-map (map pictureEntry (c .extensions)) (entryWith (c .loop) []), length-map (c .extensions) pictureEntry);
       entries = entries-rules (c .loop) (c .extensions) (r .entries);
       one-loop = entries-one (c .loop) (c .extensions) (r .one-loop);
       no-loop = λ h. r .no-loop (sym loops ∙ h);

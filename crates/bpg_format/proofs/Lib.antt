@@ -12,3 +12,5 @@ pub mod RangeLaws
 pub mod CanonicalLaws
 pub mod WriteLaws
 pub mod Writing
+pub mod Canonical
+pub mod Requirements

@@ -9,3 +9,4 @@ pub mod Records
 pub mod Parts
 pub mod Write
 pub mod Pictures
+pub mod Requirements

@@ -14,6 +14,7 @@ use Rattle.bpg_format.specs.declared.answer.Written.{Written}
 use Rattle.bpg_format.specs.Content.{Flags, Extension, Loop, Content}
 use Rattle.bpg_format.specs.Syntax.{fileOf}
 use Rattle.bpg_format.specs.Rules.{isLoop, Rules}
+use Rattle.bpg_format.specs.FileCodec.{loopNumbers}
 use Rattle.bpg_format.specs.Read.{readContent}
 use Rattle.bpg_format.specs.Write.{empty, writtenAnswer, writtenBuffer}
 
@@ -97,11 +98,23 @@ pictureOf c =
       pictureData = c .pictureData;
     }
 
--- ---- the content of a picture with one choice of each
+-- ---- the content of a picture with given encoding choices
 
--- (c) the SPS extension absent where all nine flags are zero, else present with the range flag
-abbrev pub chosenHeader : PictureHeader → Header
-chosenHeader h =
+pub record Choices : Type 0 where
+  -- (a) the data length as a number
+  pub explicitLength : Bool
+  -- (b) the extension flag
+  pub extensionPresent : Bool
+  -- (c) in each header, the SPS extension present flag and the range flag
+  pub alphaSps : Bool
+  pub alphaRange : Bool
+  pub colorSps : Bool
+  pub colorRange : Bool
+  -- (d) the bytes after the three numbers of tag 5
+  pub dummy : List ℕ
+
+abbrev pub headerWith : (sps range : Bool) → PictureHeader → Header
+headerWith sps range h =
     record {
       «log2_min_luma_coding_block_size_minus3» = h .log2MinCb;
       «log2_diff_max_min_luma_coding_block_size» = h .log2DiffCb;
@@ -116,22 +129,20 @@ chosenHeader h =
       «log2_diff_max_min_pcm_luma_coding_block_size» = h .log2DiffPcm;
       «pcm_loop_filter_disabled_flag» = h .pcmLoopFilterDisabled;
       «strong_intra_smoothing_enabled_flag» = h .strongIntraSmoothing;
-      «sps_extension_present_flag» = not (allZero (h .rangeFlags));
-      «sps_range_extension_flag» = not (allZero (h .rangeFlags));
+      «sps_extension_present_flag» = sps;
+      «sps_range_extension_flag» = range;
       «sps_extension_7bits» = h .sevenBits;
       «range_flags» = h .rangeFlags;
     }
 
-abbrev pub loopBytes : Loop → List ℕ
-loopBytes p = ue7Bytes (p .count) ++ (ue7Bytes (p .periodNum) ++ ue7Bytes (p .periodDen))
+abbrev pub loopBytes : Loop → (dummy : List ℕ) → List ℕ
+loopBytes p dummy = ue7Bytes (p .count) ++ (ue7Bytes (p .periodNum) ++ (ue7Bytes (p .periodDen) ++ dummy))
 
--- (d) no dummy bytes
-abbrev pub chosenEntry : Loop → Extension → Extension
-chosenEntry p e = record { tag = e .tag; payload = select (isLoop e) (loopBytes p) (e .payload) }
+abbrev pub entryWith : Loop → (dummy : List ℕ) → Extension → Extension
+entryWith p dummy e = record { tag = e .tag; payload = select (isLoop e) (loopBytes p dummy) (e .payload) }
 
--- (a) open; (b) no extension flag where there is no entry
-unfoldable pub chosen : Picture → Content
-chosen p =
+unfoldable pub withChoices : Picture → Choices → Content
+withChoices p ch =
     record {
       flags =
           record {
@@ -139,24 +150,68 @@ chosen p =
             alpha1 = p .alpha1;
             bitDepthMinus8 = p .bitDepthMinus8;
             colorSpace = p .colorSpace;
-            extensionPresent = not (empty (p .entries));
+            extensionPresent = ch .extensionPresent;
             alpha2 = p .alpha2;
             limitedRange = p .limitedRange;
             animation = p .animation;
           };
       width = p .width;
       height = p .height;
-      explicitLength = false;
-      extensions = map (chosenEntry (p .loop)) (p .entries);
+      explicitLength = ch .explicitLength;
+      extensions = map (entryWith (p .loop) (ch .dummy)) (p .entries);
       loop = p .loop;
-      alphaHeader = chosenHeader (p .alphaHeader);
-      colorHeader = chosenHeader (p .colorHeader);
+      alphaHeader = headerWith (ch .alphaSps) (ch .alphaRange) (p .alphaHeader);
+      colorHeader = headerWith (ch .colorSps) (ch .colorRange) (p .colorHeader);
       pictureData = p .pictureData;
     }
 
+-- ---- the canonical form (document 01: tidy form)
+
+-- (c) the SPS extension absent where all nine flags are zero, else present with the range flag
+abbrev pub needsRange : PictureHeader → Bool
+needsRange h = not (allZero (h .rangeFlags))
+
+-- (a) open; (b) no extension flag where there is no entry; (d) no dummy bytes
+abbrev pub canonicalChoices : Picture → Choices
+canonicalChoices p =
+    record {
+      explicitLength = false;
+      extensionPresent = not (empty (p .entries));
+      alphaSps = needsRange (p .alphaHeader);
+      alphaRange = needsRange (p .alphaHeader);
+      colorSps = needsRange (p .colorHeader);
+      colorRange = needsRange (p .colorHeader);
+      dummy = [];
+    }
+
+unfoldable pub canonicalContent : Content → Content
+canonicalContent c = withChoices (pictureOf c) (canonicalChoices (pictureOf c))
+
 -- the canonical form of a content: the file of its picture with these choices
 unfoldable pub canonicalBytes : Content → List ℕ
-canonicalBytes c = fileOf (chosen (pictureOf c))
+canonicalBytes c = fileOf (canonicalContent c)
+
+-- ---- the choices that a content has made
+
+abbrev pub dummyFrom : Outcome (ℕ × (ℕ × (ℕ × List ℕ))) → List ℕ
+dummyFrom (ok x) = x .1 .1 .1
+dummyFrom (error s o) = []
+
+unfoldable pub dummyOf : List Extension → List ℕ
+dummyOf [] = []
+dummyOf (e ∷ es) = select (isLoop e) (dummyFrom (loopNumbers .decode 0 0 (e .payload))) (dummyOf es)
+
+unfoldable pub choicesOf : Content → Choices
+choicesOf c =
+    record {
+      explicitLength = c .explicitLength;
+      extensionPresent = c .flags .extensionPresent;
+      alphaSps = c .alphaHeader .«sps_extension_present_flag»;
+      alphaRange = c .alphaHeader .«sps_range_extension_flag»;
+      colorSps = c .colorHeader .«sps_extension_present_flag»;
+      colorRange = c .colorHeader .«sps_range_extension_flag»;
+      dummy = dummyOf (c .extensions);
+    }
 
 -- ---- pictures and canonical forms of accepted files
 
@@ -166,6 +221,10 @@ pub record Shows (f : List ℕ) (p : Picture) : Type 0 where
   pub rules : Rules content
   pub is : f ≡ fileOf content
   pub picture : pictureOf content ≡ p
+
+-- two files show the same picture when their pictures are equal
+abbrev pub SamePicture : (f g : List ℕ) → Type 0
+SamePicture f g = (p : Picture) × Shows f p × Shows g p
 
 -- ---- what canonicalizing answers: the reader's refusals, then 20
 
