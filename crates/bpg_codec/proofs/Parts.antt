@@ -12,7 +12,7 @@ use Rattle.bpg_codec.specs.Select.{select}
 use Rattle.bpg_codec.specs.Outcome.{Outcome, ok, error, _>>=_, guard}
 use Rattle.bpg_codec.specs.Codec.{Codec, Exact}
 use Rattle.bpg_codec.specs.Lawful.{All, Byte, Lawful, ExactLawful}
-use Rattle.bpg_codec.specs.Parts.{sequence, mapped, guarded, sized, item, absent, fixed, same, literal}
+use Rattle.bpg_codec.specs.Parts.{sequence, mapped, guarded, sized, item, absent, fixed, same}
 use Rattle.bpg_codec.proofs.Select.{select-true, select-false, is-true, and-left, and-right, and-both}
 use Rattle.bpg_codec.proofs.Outcome.{ok-injective, unbind, unguard, guard-true}
 use Rattle.bpg_codec.proofs.Tokens.{all-append, all-left, all-rest, all-take}
@@ -162,17 +162,3 @@ same-equal (x ∷ xs) (y ∷ ys) t = ap₂ _∷_ (eqb→eq x y (and-left (eqb x 
 same-refl : (xs : List ℕ) → T (same xs xs)
 same-refl [] = tt
 same-refl (x ∷ xs) = and-both (eqb x x) (same xs xs) (eqb-refl x) (same-refl xs)
-
-module _ (m : List ℕ) (status : ℕ) (bytes : All Byte m) where
-  pub literal-lawful : Lawful Byte (literal m status)
-  unfolding literal
-  literal-lawful =
-      record {
-        tokens = λ a v. bytes;
-        decodes = λ a v i p r. rw (take-append-seam m r, drop-append-seam m r, is-true (same m m) (same-refl m));
-        encodes = λ i p l h a q r e.
-            unguard (same m (take (length m) l)) status p _ e λ t e1.
-            let k = same-equal m (take (length m) l) t in
-            subst (Found (literal m status) p l) (ok-injective e1)
-            (tt, sym (take-append-drop (length m) l) ∙ ap₂ _++_ (sym k) refl, refl);
-      }

@@ -73,12 +73,3 @@ same [] [] = true
 same [] (y ∷ m) = false
 same (x ∷ l) [] = false
 same (x ∷ l) (y ∷ m) = eqb x y && same l m
-
--- these bytes, and an error where others stand
-unfoldable pub literal : List ℕ → (status : ℕ) → Codec ℕ (Unit {0})
-literal m status =
-    record {
-      encode = λ _. m;
-      decode = λ i p l. guard (same m (take (length m) l)) status p >>= λ _. ok (tt, p + length m, drop (length m) l);
-      Valid = λ _. Unit {0};
-    }

@@ -18,10 +18,9 @@ use Rattle.bpg_numbers.specs.BitNumbers.{expGolombBits}
 use Rattle.bpg_numbers.proofs.Ue7Laws.{size-grows, bytes-ue7}
 use Rattle.bpg_format.specs.declared.record.Header.{Header}
 use Rattle.bpg_format.specs.Zero.{zeroHeader}
-use Rattle.bpg_format.specs.Content.{Flags, Extension, Loop, Content, hasAlpha, bitDepth}
+use Rattle.bpg_format.specs.Content.{Flags, isEmpty, Extension, Loop, Content, hasAlpha, bitDepth}
 use Rattle.bpg_format.specs.Syntax.{extensionBytes, blockBytes, extensionPart, pcmBits, spsExtensionBits, headerBits, headerBytes, bodyBytes, dataLength, fileOf}
 use Rattle.bpg_format.specs.Rules.{FieldRules, ForbiddenBits, HevcRules, HeaderRules, LoopPayload, isLoop, ExtensionRules, hasLoop, OneLoop, Rules}
-use Rattle.bpg_format.specs.Write.{empty}
 use Rattle.bpg_format.specs.Pictures.{PictureHeader, Picture, Choices, pictureHeader, pictureEntry, pictureOf, headerWith, needsRange, loopBytes, entryWith, withChoices, canonicalChoices, canonicalContent}
 use Rattle.bpg_format.proofs.RuleLaws.{bool-apart, by-tag, file-size, body-size}
 
@@ -222,7 +221,7 @@ body-shorter c r =
 
 -- the block goes where there is no entry, and is not longer where there is one
 part-shorter : (b : Bool) (p : Loop) (es : List Extension) → (b ≡ false → es ≡ []) → All (ExtensionRules p) es
-    → length (extensionPart (not (empty (map pictureEntry es))) (canonicalEntries p es)) ≤ length (extensionPart b es)
+    → length (extensionPart (not (isEmpty (map pictureEntry es))) (canonicalEntries p es)) ≤ length (extensionPart b es)
 unfolding extensionPart select
 part-shorter b p [] n r = omega arith
 part-shorter true p (e ∷ es) n r =
@@ -248,7 +247,7 @@ shorter c r =
       body-shorter c r,
     )
 
-no-entries : (p : Loop) (es : List Extension) → not (empty (map pictureEntry es)) ≡ false → canonicalEntries p es ≡ []
+no-entries : (p : Loop) (es : List Extension) → not (isEmpty (map pictureEntry es)) ≡ false → canonicalEntries p es ≡ []
 no-entries p [] e = refl
 no-entries p (x ∷ es) e = bool-apart refl e
 
@@ -267,7 +266,7 @@ canonical-rules c r =
       height = r .height;
       height-not-zero = r .height-not-zero;
       absent-block = no-entries (c .loop) (c .extensions);
-      at-most-16 = omega (arith, r .at-most-16, length-map (map pictureEntry (c .extensions)) (entryWith (c .loop) []), length-map (c .extensions) pictureEntry);
+      entry-limit = omega (arith, r .entry-limit, length-map (map pictureEntry (c .extensions)) (entryWith (c .loop) []), length-map (c .extensions) pictureEntry);
       entries = entries-rules (c .loop) (c .extensions) (r .entries);
       one-loop = entries-one (c .loop) (c .extensions) (r .one-loop);
       no-loop = λ h. r .no-loop (sym loops ∙ h);

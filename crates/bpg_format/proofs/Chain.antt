@@ -7,14 +7,15 @@ use lib.Dec.{leb, ltb, eqb}
 use lib.ListN.{length, take, drop}
 use Rattle.bpg_codec.specs.Select.{select}
 use Rattle.bpg_codec.specs.Outcome.{Outcome, ok, error, _>>=_, guard}
-use Rattle.bpg_codec.specs.Parts.{sequence, mapped, guarded, sized, item, absent}
+use Rattle.bpg_codec.specs.Parts.{sequence, mapped, guarded, sized, item, absent, fixed}
+use Rattle.bpg_codec.specs.Codec.{Codec}
 use Rattle.bpg_codec.specs.Regions.{thenRest, itemThenRest, mappedExact, derived, guardedRegion, rest, verbatim, decodeEach, repeated, packed}
 use Rattle.bpg_codec.proofs.Outcome.{bind-assoc}
 use Rattle.bpg_format.specs.declared.record.Header.{Header}
 use Rattle.bpg_format.specs.Zero.{zeroHeader}
 use Rattle.bpg_format.specs.Content.{Flags, Extension, Content, hasAlpha, bitDepth}
-use Rattle.bpg_format.specs.FileCodec.{flags, dimension, period, loopNumbers, payload, extension, seenAfter, extensions, block, header, alphaHeader, body, parts, withLoop, file}
-use Rattle.bpg_format.specs.Read.{readLoop, readEntries, readBlock, readHeader, readAlphaHeader, readContent}
+use Rattle.bpg_format.specs.FileCodec.{flags, dimension, period, loopNumbers, payload, extension, seenAfter, extensions, block, optional, sizeFields, pcmFields, spsFields, fieldSequence, headerFields, header, alphaHeader, body, parts, withLoop, file}
+use Rattle.bpg_format.specs.Read.{readLoop, readEntries, readBlock, readSizes, readPcm, readSps, readFields, readHeader, readAlphaHeader, readContent}
 
 loop-chain : (i p : ℕ) (l : List ℕ) → verbatim loopNumbers .decode i p l ≡ readLoop p l
 unfolding verbatim loopNumbers thenRest period guarded rest readLoop
@@ -43,9 +44,30 @@ unfolding block select readBlock sized absent extensions repeated
 block-chain true i p l = simp entries-chain
 block-chain false i p l = refl
 
+optional-chain : {A : Type 0} (b : Bool) (c : Codec Bool A) (e : A) (i p : ℕ) (l : List Bool) → optional b c e .decode i p l ≡ select b (c .decode i p l) (ok (e, p, l))
+unfolding select absent
+optional-chain true c e i p l = refl
+optional-chain false c e i p l = refl
+
+sizes-chain : (i p : ℕ) (l : List Bool) → sizeFields .decode i p l ≡ readSizes i p l
+unfolding sizeFields sequence readSizes
+sizes-chain i p l = simp bind-assoc
+
+pcm-chain : (i p : ℕ) (l : List Bool) → pcmFields .decode i p l ≡ readPcm i p l
+unfolding pcmFields sequence mapped readPcm
+pcm-chain i p l = simp bind-assoc
+
+sps-chain : (i p : ℕ) (l : List Bool) → spsFields .decode i p l ≡ readSps i p l
+unfolding spsFields sequence mapped readSps
+sps-chain i p l = simp bind-assoc
+
+fields-chain : (i p : ℕ) (l : List Bool) → headerFields .decode i p l ≡ readFields i p l
+unfolding headerFields fieldSequence mapped sequence fixed readFields
+fields-chain i p l = simp (bind-assoc, sizes-chain, optional-chain, pcm-chain, sps-chain)
+
 pub header-chain : (depth i p : ℕ) (l : List ℕ) → header depth .decode i p l ≡ readHeader depth p l
 unfolding header guarded item sized packed readHeader
-header-chain depth i p l = simp bind-assoc
+header-chain depth i p l = simp (bind-assoc, fields-chain)
 
 alpha-select : (b : Bool) (depth i p : ℕ) (l : List ℕ)
     → select b (header depth) (absent zeroHeader) .decode i p l ≡ select b (readHeader depth p l) (ok (zeroHeader, p, l))

@@ -22,11 +22,12 @@ use Rattle.bpg_numbers.specs.Ue7.{ue7, ue7Bytes}
 use Rattle.bpg_numbers.specs.BitNumbers.{unsigned, expGolomb}
 use Rattle.bpg_numbers.proofs.Ue7Laws.{ue7-lawful, size-positive}
 use Rattle.bpg_numbers.proofs.BitNumberLaws.{unsigned-lawful, expGolomb-lawful}
+use Rattle.bpg_format.specs.Limits.{maxEntries, maxFile}
 use Rattle.bpg_format.specs.declared.record.Header.{Header}
 use Rattle.bpg_format.specs.Zero.{zeroHeader}
 use Rattle.bpg_format.specs.Content.{Flags, Extension, Loop, Content, hasAlpha, bitDepth}
 use Rattle.bpg_format.specs.Rules.{hasLoop}
-use Rattle.bpg_format.specs.FileCodec.{flags, notZero, dimension, period, loopNumbers, payload, extension, seenAfter, extensions, block, loopOf, oneBit, optional, FieldTuple, fieldSequence, headerFields, noForbiddenBit, hevcAllowed, header, alphaHeader, body, countsBody, Parts, parts, withLoop, contentFrom, lengthOf, partsOf, file}
+use Rattle.bpg_format.specs.FileCodec.{flags, notZero, dimension, period, loopNumbers, payload, extension, seenAfter, extensions, block, loopOf, oneBit, optional, sizeFields, pcmFields, spsFields, noPcm, noSps, FieldTuple, fieldSequence, headerFields, noForbiddenBit, hevcAllowed, header, alphaHeader, body, countsBody, Parts, parts, withLoop, contentFrom, lengthOf, partsOf, file}
 use Rattle.bpg_format.proofs.FlagLaws.{flags-lawful}
 
 -- ---- the extension block
@@ -61,7 +62,7 @@ extension-some seen e = rw length-append (omega (arith, size-positive (e .tag)))
 
 pub extensions-lawful : ExactLawful Byte extensions
 unfolding extensions
-extensions-lawful = repeated-lawful seenAfter 11 extension-lawful extension-some 16 false
+extensions-lawful = repeated-lawful seenAfter 11 extension-lawful extension-some maxEntries false
 
 block-lawful : (present : Bool) → Lawful Byte (block present)
 unfolding block
@@ -75,18 +76,28 @@ oneBit-lawful = mapped-lawful (unsigned-lawful 1) (λ b v. bit-of-bit b) (λ n v
 optional-lawful : {A : Type 0} (present : Bool) {c : Codec Bool A} (e : A) → Lawful Bit c → Lawful Bit (optional present c e)
 optional-lawful present e h = select-lawful present h (absent-lawful Bit e)
 
+sizes-lawful : Lawful Bit sizeFields
+unfolding sizeFields
+sizes-lawful =
+    sequence-lawful expGolomb-lawful λ _. sequence-lawful expGolomb-lawful λ _. sequence-lawful expGolomb-lawful λ _.
+    sequence-lawful expGolomb-lawful λ _. expGolomb-lawful
+
+pcm-lawful : Lawful Bit pcmFields
+unfolding pcmFields
+pcm-lawful =
+    sequence-lawful (unsigned-lawful 4) λ _. sequence-lawful (unsigned-lawful 4) λ _. sequence-lawful expGolomb-lawful λ _.
+    sequence-lawful expGolomb-lawful λ _. oneBit-lawful
+
+sps-lawful : Lawful Bit spsFields
+unfolding spsFields
+sps-lawful = sequence-lawful oneBit-lawful λ _. unsigned-lawful 7
+
 fieldSequence-lawful : Lawful Bit fieldSequence
 unfolding fieldSequence
 fieldSequence-lawful =
-    sequence-lawful expGolomb-lawful λ _. sequence-lawful expGolomb-lawful λ _. sequence-lawful expGolomb-lawful λ _.
-    sequence-lawful expGolomb-lawful λ _. sequence-lawful expGolomb-lawful λ _.
-    sequence-lawful oneBit-lawful λ _. sequence-lawful oneBit-lawful λ pcm.
-    sequence-lawful (optional-lawful pcm 0 (unsigned-lawful 4)) λ _. sequence-lawful (optional-lawful pcm 0 (unsigned-lawful 4)) λ _.
-    sequence-lawful (optional-lawful pcm 0 expGolomb-lawful) λ _. sequence-lawful (optional-lawful pcm 0 expGolomb-lawful) λ _.
-    sequence-lawful (optional-lawful pcm false oneBit-lawful) λ _.
-    sequence-lawful oneBit-lawful λ _. sequence-lawful oneBit-lawful λ sps.
-    sequence-lawful (optional-lawful sps false oneBit-lawful) λ range. sequence-lawful (optional-lawful sps 0 (unsigned-lawful 7)) λ _.
-    optional-lawful range (replicate 9 false) (fixed-lawful Bit 9 15 atItem)
+    sequence-lawful sizes-lawful λ _. sequence-lawful oneBit-lawful λ _. sequence-lawful oneBit-lawful λ pcm.
+    sequence-lawful (optional-lawful pcm noPcm pcm-lawful) λ _. sequence-lawful oneBit-lawful λ _. sequence-lawful oneBit-lawful λ sps.
+    sequence-lawful (optional-lawful sps noSps sps-lawful) λ x. optional-lawful (x .0) (replicate 9 false) (fixed-lawful Bit 9 15 atItem)
 
 pub headerFields-lawful : Lawful Bit headerFields
 unfolding headerFields
@@ -111,7 +122,7 @@ body-lawful f = thenRest-lawful (alphaHeader-lawful f) λ _. thenRest-lawful (he
 parts-lawful : ExactLawful Byte parts
 unfolding parts
 parts-lawful =
-    guardedRegion-lawful (λ size. leb size 16777216) 1 (λ _ _. 0)
+    guardedRegion-lawful (λ size. leb size maxFile) 1 (λ _ _. 0)
     (thenRest-lawful flags-lawful λ f.
     thenRest-lawful dimension-lawful λ _.
     thenRest-lawful dimension-lawful λ _.
@@ -140,7 +151,7 @@ choice-length (suc n) size t =
     rw z (sym (eqb→eq (suc n) size (rw z at t)))
 
 content-parts : (c : Content) → withLoop .Valid (partsOf c) → contentFrom (partsOf c) ≡ c
-content-parts c v = rw (length-choice (c .explicitLength) _ (body-some (c .flags) (c .alphaHeader, (c .colorHeader, c .pictureData))))
+content-parts c v = rw (length-choice (c .explicitLength) _ (body-some (c .flags) (c .alphaHeader, (c .colorHeader, c .hevcData))))
 
 parts-content : (x : Parts × Loop) → withLoop .Valid x → partsOf (contentFrom x) ≡ x
 unfolding withLoop derived parts guardedRegion thenRest itemThenRest

@@ -21,7 +21,7 @@ use Rattle.bpg_numbers.specs.BitNumbers.{unsigned, expGolomb}
 use Rattle.bpg_format.specs.declared.record.Header.{Header}
 use Rattle.bpg_format.specs.Syntax.{headerBits}
 use Rattle.bpg_format.specs.Rules.{Coded, NoPcm, NoSpsExtension, FieldRules, ForbiddenBits, PcmRules, HevcRules, HeaderRules, minCbLog2SizeY, ctbLog2SizeY, minTbLog2SizeY, maxTbLog2SizeY, log2MinIpcmCbSizeY}
-use Rattle.bpg_format.specs.FileCodec.{oneBit, optional, FieldTuple, fieldSequence, fieldsOf, headerFields, rangeFlag, noForbiddenBit, pcmAllowed, hevcAllowed, header}
+use Rattle.bpg_format.specs.FileCodec.{oneBit, optional, sizeFields, PcmFields, pcmFields, spsFields, noPcm, noSps, fieldSequence, pcmOf, headerFields, rangeFlag, noForbiddenBit, pcmAllowed, hevcAllowed, header}
 use Rattle.bpg_format.proofs.SyntaxLaws.{fields-encode}
 
 -- ---- 17 and 16: the tests say the rules
@@ -119,51 +119,76 @@ one-bit-valid : (b : Bool) → oneBit .Valid b
 unfolding mapped
 one-bit-valid b = bit-small b
 
+pcm-none : (h : Header) → pcmOf h ≡ noPcm → NoPcm h
+pcm-none h e =
+    record {
+      luma-depth = ap (λ (x : PcmFields). x .0) e;
+      chroma-depth = ap (λ (x : PcmFields). x .1 .0) e;
+      min-size = ap (λ (x : PcmFields). x .1 .1 .0) e;
+      max-size = ap (λ (x : PcmFields). x .1 .1 .1 .0) e;
+      loop-filter = ap (λ (x : PcmFields). x .1 .1 .1 .1) e;
+    }
+
+none-pcm : (h : Header) → NoPcm h → pcmOf h ≡ noPcm
+none-pcm h r = λ z. (r .luma-depth z, (r .chroma-depth z, (r .min-size z, (r .max-size z, r .loop-filter z))))
+
+abbrev PcmCoded : PcmFields → Type 0
+PcmCoded x = Coded (x .1 .1 .0) × Coded (x .1 .1 .1 .0)
+
+pcm-valid : (x : PcmFields) → pcmFields .Valid x → PcmCoded x
+unfolding pcmFields sequence
+pcm-valid x v = (v .1 .1 .0, v .1 .1 .1 .0)
+
+valid-pcm : (x : PcmFields) → x .0 < 16 → x .1 .0 < 16 → PcmCoded x → pcmFields .Valid x
+unfolding pcmFields sequence
+valid-pcm x l c r = (l, (c, (r .0, (r .1, one-bit-valid (x .1 .1 .1 .1)))))
+
+sps-valid : (b : Bool) (n : ℕ) → n ≡ 0 → spsFields .Valid (b, n)
+unfolding spsFields sequence
+sps-valid b n e = (one-bit-valid b, omega arith)
+
 fields-sound : (h : Header) → headerFields .Valid h → FieldRules h
-unfolding headerFields mapped fieldSequence sequence
+unfolding headerFields mapped fieldSequence sequence sizeFields
 fields-sound h v =
     let pcm = h .«pcm_enabled_flag» in
     let sps = h .«sps_extension_present_flag» in
-    let a = v .1 .1 .1 .1 .1 .1 .1 in
-    let b = a .1 .1 .1 .1 .1 .1 .1 in
+    let s = v .0 in
+    let a = v .1 .1 .1 .0 in
+    let b = v .1 .1 .1 .1 .1 .1 .0 in
+    let n = v .1 .1 .1 .1 .1 .1 .1 in
     record {
-      min-cb = v .0;
-      diff-cb = v .1 .0;
-      min-tb = v .1 .1 .0;
-      diff-tb = v .1 .1 .1 .0;
-      depth = v .1 .1 .1 .1 .0;
-      min-pcm = opt-present pcm expGolomb 0 _ (a .1 .1 .0);
-      diff-pcm = opt-present pcm expGolomb 0 _ (a .1 .1 .1 .0);
-      no-pcm = λ e. record {
-        luma-depth = opt-absent pcm (unsigned 4) 0 _ (a .0) e;
-        chroma-depth = opt-absent pcm (unsigned 4) 0 _ (a .1 .0) e;
-        min-size = opt-absent pcm expGolomb 0 _ (a .1 .1 .0) e;
-        max-size = opt-absent pcm expGolomb 0 _ (a .1 .1 .1 .0) e;
-        loop-filter = opt-absent pcm oneBit false _ (a .1 .1 .1 .1 .0) e;
-      };
-      no-extension = λ e. record { range-flag = opt-absent sps oneBit false _ (b .0) e; seven-bits = opt-absent sps (unsigned 7) 0 _ (b .1 .0) e };
-      nine = nine-length (h .«sps_range_extension_flag») (h .«range_flags») (b .1 .1);
-      no-range = opt-absent (h .«sps_range_extension_flag») (fixed Bit 9 15 atItem) (replicate 9 false) (h .«range_flags») (b .1 .1);
+      min-cb = s .0;
+      diff-cb = s .1 .0;
+      min-tb = s .1 .1 .0;
+      diff-tb = s .1 .1 .1 .0;
+      depth = s .1 .1 .1 .1;
+      min-pcm = λ e. pcm-valid (pcmOf h) (opt-present pcm pcmFields noPcm (pcmOf h) a e) .0;
+      diff-pcm = λ e. pcm-valid (pcmOf h) (opt-present pcm pcmFields noPcm (pcmOf h) a e) .1;
+      no-pcm = λ e. pcm-none h (opt-absent pcm pcmFields noPcm (pcmOf h) a e);
+      no-extension = λ e. let x = opt-absent sps spsFields noSps _ b e in
+          record { range-flag = ap (λ (y : Bool × ℕ). y .0) x; seven-bits = ap (λ (y : Bool × ℕ). y .1) x };
+      nine = nine-length (h .«sps_range_extension_flag») (h .«range_flags») n;
+      no-range = opt-absent (h .«sps_range_extension_flag») (fixed Bit 9 15 atItem) (replicate 9 false) (h .«range_flags») n;
     }
 
 -- the depths of PCM samples fit four bits since they are at most the file's, and the seven bits are zero
 fields-full : (depth : ℕ) (h : Header) → depth ≤ 14 → HeaderRules depth h → headerFields .Valid h
-unfolding headerFields mapped fieldSequence sequence fixed
+unfolding headerFields mapped fieldSequence sequence sizeFields fixed
 fields-full depth h d r =
     let f = r .fields in
     let pcm = h .«pcm_enabled_flag» in
     let sps = h .«sps_extension_present_flag» in
-    (f .min-cb, (f .diff-cb, (f .min-tb, (f .diff-tb, (f .depth,
-    (one-bit-valid (h .«sample_adaptive_offset_enabled_flag»), (one-bit-valid pcm,
-    (opt-valid pcm (unsigned 4) 0 _ (λ e. omega (arith, r .hevc .pcm e .luma-depth)) (λ e. f .no-pcm e .luma-depth),
-    (opt-valid pcm (unsigned 4) 0 _ (λ e. omega (arith, r .hevc .pcm e .chroma-depth)) (λ e. f .no-pcm e .chroma-depth),
-    (opt-valid pcm expGolomb 0 _ (f .min-pcm) (λ e. f .no-pcm e .min-size),
-    (opt-valid pcm expGolomb 0 _ (f .diff-pcm) (λ e. f .no-pcm e .max-size),
-    (opt-valid pcm oneBit false _ (λ e. one-bit-valid (h .«pcm_loop_filter_disabled_flag»)) (λ e. f .no-pcm e .loop-filter),
-    (one-bit-valid (h .«strong_intra_smoothing_enabled_flag»), (one-bit-valid sps,
-    (opt-valid sps oneBit false _ (λ e. one-bit-valid (h .«sps_range_extension_flag»)) (λ e. f .no-extension e .range-flag),
-    (opt-valid sps (unsigned 7) 0 _ (λ e. omega (arith, r .forbidden .seven-bits)) (λ e. f .no-extension e .seven-bits),
-    opt-valid (h .«sps_range_extension_flag») (fixed Bit 9 15 atItem) (replicate 9 false) _ (λ e. (all-bits (h .«range_flags»), f .nine)) (f .no-range)))))))))))))))))
+    ((f .min-cb, (f .diff-cb, (f .min-tb, (f .diff-tb, f .depth)))),
+    (one-bit-valid (h .«sample_adaptive_offset_enabled_flag»),
+    (one-bit-valid pcm,
+    (opt-valid pcm pcmFields noPcm (pcmOf h)
+    (λ e. valid-pcm (pcmOf h) (omega (arith, r .hevc .pcm e .luma-depth)) (omega (arith, r .hevc .pcm e .chroma-depth)) (f .min-pcm e, f .diff-pcm e))
+    (λ e. none-pcm h (f .no-pcm e)),
+    (one-bit-valid (h .«strong_intra_smoothing_enabled_flag»),
+    (one-bit-valid sps,
+    (opt-valid sps spsFields noSps _ (λ e. sps-valid _ _ (r .forbidden .seven-bits))
+    (λ e. let n = f .no-extension e in λ z. (n .range-flag z, n .seven-bits z)),
+    opt-valid (h .«sps_range_extension_flag») (fixed Bit 9 15 atItem) (replicate 9 false) _ (λ e. (all-bits (h .«range_flags»), f .nine)) (f .no-range))))))))
 
 -- ---- the header
 

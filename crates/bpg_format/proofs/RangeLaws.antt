@@ -70,14 +70,14 @@ pub start-after : (c : Content) → blockStart c + length (blockBytes (c .extens
 unfolding dataStart
 start-after c = omega arith
 
-pub data-end : (c : Content) → Rules c → length (fileOf c) ≡ dataStart c + length (c .pictureData)
+pub data-end : (c : Content) → Rules c → length (fileOf c) ≡ dataStart c + length (c .hevcData)
 data-end c r =
-    ap length (data-file c (r .absent-block)) ∙ length-append (beforeData c) (c .pictureData) ∙ ap (λ (n : ℕ). n + length (c .pictureData)) (data-length c)
+    ap length (data-file c (r .absent-block)) ∙ length-append (beforeData c) (c .hevcData) ∙ ap (λ (n : ℕ). n + length (c .hevcData)) (data-length c)
 
 pub ranges-in-order : (c : Content) → Rules c → InOrder (rangesOf (recordOf c)) (length (fileOf c))
 unfolding recordOf
 ranges-in-order c r =
-    let d = range (dataStart c) (length (c .pictureData)) in
+    let d = range (dataStart c) (length (c .hevcData)) in
     let file = data-end c r in
     in-order 0 _ _
     (subst (λ (es : List Entry). Ascending 0 (payloads es ++ (d ∷ [])) (length (fileOf c))) (sym (used-entries (blockStart c) (c .extensions)))

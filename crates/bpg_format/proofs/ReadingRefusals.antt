@@ -16,126 +16,130 @@ use Rattle.bpg_codec.proofs.Refusals.{Refuses, refuses-ok, refuses-bind, refuse
 use Rattle.bpg_numbers.specs.Ue7.{ue7}
 use Rattle.bpg_numbers.specs.BitNumbers.{unsigned, expGolomb}
 use Rattle.bpg_numbers.proofs.Refusals.{ue7-refuses, unsigned-refuses, expGolomb-refuses}
+use Rattle.bpg_format.specs.Limits.{maxEntries, maxFile}
 use Rattle.bpg_format.specs.Zero.{zeroHeader}
 use Rattle.bpg_format.specs.Content.{Flags, Extension, Content, hasAlpha, bitDepth}
 use Rattle.bpg_format.specs.Syntax.{magic}
 use Rattle.bpg_format.specs.Rules.{hasLoop, ReadingStatus}
-use Rattle.bpg_format.specs.FileCodec.{flagsOf, colorSpaceAllowed, readFlags, flags, notZero, dimension, period, loopNumbers, payload, extension, seenAfter, extensions, block, loopOf, oneBit, optional, fieldSequence, headerFrom, fieldsOf, headerFields, noForbiddenBit, hevcAllowed, header, alphaHeader, body, countsBody, Parts, parts, withLoop, contentFrom, partsOf, file}
+use Rattle.bpg_format.specs.FileCodec.{flagsOf, colorSpaceAllowed, readFlags, flags, notZero, dimension, period, loopNumbers, payload, extension, seenAfter, extensions, block, loopOf, oneBit, optional, sizeFields, pcmFields, spsFields, noPcm, noSps, fieldSequence, headerFrom, fieldsOf, headerFields, noForbiddenBit, hevcAllowed, header, alphaHeader, body, countsBody, Parts, parts, withLoop, contentFrom, partsOf, file}
 use Rattle.bpg_format.specs.Read.{readContent}
 use Rattle.bpg_format.proofs.Chain.{content-chain}
 
+abbrev Numbered : (status offset : ℕ) → Type 0
+Numbered s o = ReadingStatus s
+
 abbrev C : {S A : Type 0} → Codec S A → Type 0
-C c = CodecRefuses ReadingStatus c
+C c = CodecRefuses Numbered c
 
 abbrev E : {S A : Type 0} → Exact S A → Type 0
-E c = ExactRefuses ReadingStatus c
+E c = ExactRefuses Numbered c
 
 number : (n : ℕ) → C (ue7 n)
-number n = ue7-refuses ReadingStatus (omega arith) (omega arith) (omega arith) n
+number n = ue7-refuses Numbered (λ _. omega arith) (λ _. omega arith) (λ _. omega arith) n
 
 -- ---- the extension block
 
 period-refuses : C period
 unfolding period
-period-refuses = guarded-refuses ReadingStatus notZero 12 atOwn (omega arith) (number 16)
+period-refuses = guarded-refuses Numbered notZero 12 atOwn (λ _. omega arith) (number 16)
 
 loop-refuses : E loopNumbers
 unfolding loopNumbers
 loop-refuses =
-    thenRest-refuses ReadingStatus (number 16) λ _. thenRest-refuses ReadingStatus period-refuses λ _.
-    thenRest-refuses ReadingStatus period-refuses λ _. rest-refuses ReadingStatus Byte
+    thenRest-refuses Numbered (number 16) λ _. thenRest-refuses Numbered period-refuses λ _.
+    thenRest-refuses Numbered period-refuses λ _. rest-refuses Numbered Byte
 
 payload-refuses : (b : Bool) → E (payload b)
 unfolding payload select
-payload-refuses true = verbatim-refuses ReadingStatus loop-refuses
-payload-refuses false = rest-refuses ReadingStatus Byte
+payload-refuses true = verbatim-refuses Numbered loop-refuses
+payload-refuses false = rest-refuses Numbered Byte
 
 extension-refuses : (seen : Bool) → C (extension seen)
 unfolding extension
 extension-refuses seen =
-    mapped-refuses ReadingStatus _ _
-    (sequence-refuses ReadingStatus (number 32) λ tag. sized-refuses ReadingStatus 2 (omega arith) (number 32)
-    (guardedRegion-refuses ReadingStatus (λ _. not (seen && eqb tag 5)) 13 atItem (omega arith) (payload-refuses (eqb tag 5))))
+    mapped-refuses Numbered _ _
+    (sequence-refuses Numbered (number 32) λ tag. sized-refuses Numbered 2 (λ _. omega arith) (number 32)
+    (guardedRegion-refuses Numbered (λ _. not (seen && eqb tag 5)) 13 atItem (λ _. omega arith) (payload-refuses (eqb tag 5))))
 
 block-refuses : (present : Bool) → C (block present)
 unfolding block extensions
 block-refuses present =
-    select-refuses ReadingStatus present
-    (sized-refuses ReadingStatus 2 (omega arith) (number 32) (repeated-refuses ReadingStatus seenAfter 11 (omega arith) extension-refuses 16 false))
-    (absent-refuses ReadingStatus [])
+    select-refuses Numbered present
+    (sized-refuses Numbered 2 (λ _. omega arith) (number 32) (repeated-refuses Numbered seenAfter 11 (λ _. omega arith) extension-refuses maxEntries false))
+    (absent-refuses Numbered [])
 
 -- ---- HEVC headers
 
 field : (n : ℕ) → C (unsigned n)
-field n = unsigned-refuses ReadingStatus (omega arith) n
+field n = unsigned-refuses Numbered (λ _. omega arith) n
 
 code : C expGolomb
-code = expGolomb-refuses ReadingStatus (omega arith)
+code = expGolomb-refuses Numbered (λ _. omega arith)
 
 one : C oneBit
-one = mapped-refuses ReadingStatus _ _ (field 1)
+one = mapped-refuses Numbered _ _ (field 1)
 
 opt : {A : Type 0} (present : Bool) {c : Codec Bool A} (e : A) → C c → C (optional present c e)
-opt present e h = select-refuses ReadingStatus present h (absent-refuses ReadingStatus e)
+opt present e h = select-refuses Numbered present h (absent-refuses Numbered e)
 
 next : {A B : Type 0} {c : Codec Bool A} {d : A → Codec Bool B} → C c → ((a : A) → C (d a)) → C (sequence c d)
-next = sequence-refuses ReadingStatus
+next = sequence-refuses Numbered
 
 fields-refuse : C headerFields
-unfolding headerFields fieldSequence
+unfolding headerFields fieldSequence sizeFields pcmFields spsFields
 fields-refuse =
-    mapped-refuses ReadingStatus headerFrom fieldsOf
-    (next code λ _. next code λ _. next code λ _. next code λ _. next code λ _. next one λ _. next one λ pcm.
-    next (opt pcm 0 (field 4)) λ _. next (opt pcm 0 (field 4)) λ _. next (opt pcm 0 code) λ _. next (opt pcm 0 code) λ _.
-    next (opt pcm false one) λ _. next one λ _. next one λ sps. next (opt sps false one) λ range. next (opt sps 0 (field 7)) λ _.
-    opt range (replicate 9 false) (fixed-refuses ReadingStatus Bit 9 15 atItem (omega arith)))
+    mapped-refuses Numbered headerFrom fieldsOf
+    (next (next code λ _. next code λ _. next code λ _. next code λ _. code) λ _. next one λ _. next one λ pcm.
+    next (opt pcm noPcm (next (field 4) λ _. next (field 4) λ _. next code λ _. next code λ _. one)) λ _.
+    next one λ _. next one λ sps. next (opt sps noSps (next one λ _. field 7)) λ x.
+    opt (x .0) (replicate 9 false) (fixed-refuses Numbered Bit 9 15 atItem (λ _. omega arith)))
 
 header-refuses : (depth : ℕ) → C (header depth)
 unfolding header
 header-refuses depth =
-    guarded-refuses ReadingStatus (hevcAllowed depth) 16 atOwn (omega arith)
-    (guarded-refuses ReadingStatus noForbiddenBit 17 atOwn (omega arith)
-    (item-refuses ReadingStatus (sized-refuses ReadingStatus 2 (omega arith) (number 32) (packed-refuses ReadingStatus 15 (omega arith) fields-refuse))))
+    guarded-refuses Numbered (hevcAllowed depth) 16 atOwn (λ _. omega arith)
+    (guarded-refuses Numbered noForbiddenBit 17 atOwn (λ _. omega arith)
+    (item-refuses Numbered (sized-refuses Numbered 2 (λ _. omega arith) (number 32) (packed-refuses Numbered 15 (λ _. omega arith) fields-refuse))))
 
 body-refuses : (f : Flags) → E (body f)
 unfolding body alphaHeader
 body-refuses f =
-    thenRest-refuses ReadingStatus (select-refuses ReadingStatus (hasAlpha f) (header-refuses (bitDepth f)) (absent-refuses ReadingStatus zeroHeader)) λ _.
-    thenRest-refuses ReadingStatus (header-refuses (bitDepth f)) λ _. rest-refuses ReadingStatus Byte
+    thenRest-refuses Numbered (select-refuses Numbered (hasAlpha f) (header-refuses (bitDepth f)) (absent-refuses Numbered zeroHeader)) λ _.
+    thenRest-refuses Numbered (header-refuses (bitDepth f)) λ _. rest-refuses Numbered Byte
 
 -- ---- the file
 
-read-flags : (l : List ℕ) → Refuses ReadingStatus (readFlags l)
+read-flags : (l : List ℕ) → Refuses Numbered (readFlags l)
 unfolding readFlags
 read-flags l =
     let f = flagsOf (getD l 4 0) (getD l 5 0) in
-    refuses-guard ReadingStatus (leb 6 (length l)) 2 0 _ (omega arith)
-    (refuses-guard ReadingStatus (same magic (take 4 l)) 3 0 _ (omega arith)
-    (refuses-guard ReadingStatus (leb (getD l 4 0 / 32) 5) 4 4 _ (omega arith)
-    (refuses-guard ReadingStatus (leb (getD l 4 0 % 16) 6) 5 4 _ (omega arith)
-    (refuses-guard ReadingStatus (colorSpaceAllowed f) 6 5 _ (omega arith) (refuses-ok ReadingStatus f)))))
+    refuses-guard Numbered (leb 6 (length l)) 2 0 _ (omega arith)
+    (refuses-guard Numbered (same magic (take 4 l)) 3 0 _ (omega arith)
+    (refuses-guard Numbered (leb (getD l 4 0 / 32) 5) 4 4 _ (omega arith)
+    (refuses-guard Numbered (leb (getD l 4 0 % 16) 6) 5 4 _ (omega arith)
+    (refuses-guard Numbered (colorSpaceAllowed f) 6 5 _ (omega arith) (refuses-ok Numbered f)))))
 
 flags-refuse : C flags
 unfolding flags
-flags-refuse = record { refuses = λ i p l. refuses-bind ReadingStatus (readFlags l) _ (read-flags l) λ f. refuses-ok ReadingStatus (f, p + 6, drop 6 l) }
+flags-refuse = record { refuses = λ i p l. refuses-bind Numbered (readFlags l) _ (read-flags l) λ f. refuses-ok Numbered (f, p + 6, drop 6 l) }
 
 dimension-refuses : C dimension
 unfolding dimension
-dimension-refuses = guarded-refuses ReadingStatus notZero 9 atOwn (omega arith) (number 32)
+dimension-refuses = guarded-refuses Numbered notZero 9 atOwn (λ _. omega arith) (number 32)
 
 file-refuses : E file
 unfolding file withLoop parts
 file-refuses =
-    mappedExact-refuses ReadingStatus contentFrom partsOf
-    (derived-refuses ReadingStatus (λ (x : Parts). loopOf (x .1 .1 .1 .1 .0))
-    (guardedRegion-refuses ReadingStatus (λ size. leb size 16777216) 1 (λ _ _. 0) (omega arith)
-    (thenRest-refuses ReadingStatus flags-refuse λ f.
-    thenRest-refuses ReadingStatus dimension-refuses λ _.
-    thenRest-refuses ReadingStatus dimension-refuses λ _.
-    itemThenRest-refuses ReadingStatus (number 32) λ n.
-    thenRest-refuses ReadingStatus (block-refuses (f .extensionPresent)) λ es.
-    guardedRegion-refuses ReadingStatus (λ _. not (f .animation) || hasLoop es) 14 (λ _ _. 5) (omega arith)
-    (guardedRegion-refuses ReadingStatus (countsBody n) 10 atItem (omega arith) (body-refuses f)))))
+    mappedExact-refuses Numbered contentFrom partsOf
+    (derived-refuses Numbered (λ (x : Parts). loopOf (x .1 .1 .1 .1 .0))
+    (guardedRegion-refuses Numbered (λ size. leb size maxFile) 1 (λ _ _. 0) (λ _. omega arith)
+    (thenRest-refuses Numbered flags-refuse λ f.
+    thenRest-refuses Numbered dimension-refuses λ _.
+    thenRest-refuses Numbered dimension-refuses λ _.
+    itemThenRest-refuses Numbered (number 32) λ n.
+    thenRest-refuses Numbered (block-refuses (f .extensionPresent)) λ es.
+    guardedRegion-refuses Numbered (λ _. not (f .animation) || hasLoop es) 14 (λ _ _. 5) (λ _. omega arith)
+    (guardedRegion-refuses Numbered (countsBody n) 10 atItem (λ _. omega arith) (body-refuses f)))))
 
 pub content-refuses : (l : List ℕ) (s o : ℕ) → readContent l ≡ error s o → ReadingStatus s
 content-refuses l s o e = file-refuses .refuses 0 0 l s o (content-chain l ∙ e)

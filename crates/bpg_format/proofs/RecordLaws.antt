@@ -92,7 +92,7 @@ used-entries p es = take-at (entriesAt p es) _ (length es) (entries-length p es)
 unfoldable pub beforeData : Content → List ℕ
 beforeData c = beforeEntries c ++ (blockBytes (c .extensions) ++ (select (hasAlpha (c .flags)) (headerBytes (c .alphaHeader)) [] ++ headerBytes (c .colorHeader)))
 
-pub data-file : (c : Content) → (c .flags .extensionPresent ≡ false → c .extensions ≡ []) → fileOf c ≡ beforeData c ++ c .pictureData
+pub data-file : (c : Content) → (c .flags .extensionPresent ≡ false → c .extensions ≡ []) → fileOf c ≡ beforeData c ++ c .hevcData
 unfolding beforeData bodyBytes
 data-file c n = file-entries c n ∙ simp append-assoc
 
@@ -102,8 +102,8 @@ data-length c =
     let s = select-length (hasAlpha (c .flags)) (headerBytes (c .alphaHeader)) in
     simp length-append (omega (arith, before-length c, s))
 
-data-back : (c : Content) → (c .flags .extensionPresent ≡ false → c .extensions ≡ []) → take (length (c .pictureData)) (drop (dataStart c) (fileOf c)) ≡ c .pictureData
-data-back c n = rw (data-file c n, ← data-length c, drop-append-seam (beforeData c) (c .pictureData), take-length (c .pictureData))
+data-back : (c : Content) → (c .flags .extensionPresent ≡ false → c .extensions ≡ []) → take (length (c .hevcData)) (drop (dataStart c) (fileOf c)) ≡ c .hevcData
+data-back c n = rw (data-file c n, ← data-length c, drop-append-seam (beforeData c) (c .hevcData), take-length (c .hevcData))
 
 -- ---- the content of the record over the file
 
@@ -115,7 +115,7 @@ content-record c r =
     ∙ entries-back (c .extensions) (fileOf c) (beforeEntries c) (bodyBytes c) (blockStart c) (file-entries c (r .absent-block)) (sym (before-length c)) in
     same (c) es (data-back c (r .absent-block))
   where
-    same : (c : Content) {es : List Extension} {d : List ℕ} → es ≡ c .extensions → d ≡ c .pictureData
+    same : (c : Content) {es : List Extension} {d : List ℕ} → es ≡ c .extensions → d ≡ c .hevcData
         → _≡_ {A = Content}
         (record {
           flags = c .flags;
@@ -126,7 +126,7 @@ content-record c r =
           loop = c .loop;
           alphaHeader = c .alphaHeader;
           colorHeader = c .colorHeader;
-          pictureData = d;
+          hevcData = d;
         })
         c
     same c e d = rw (e, d)

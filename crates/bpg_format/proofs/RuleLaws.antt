@@ -18,6 +18,7 @@ use Rattle.bpg_codec.specs.Parts.{sequence, mapped, guarded, sized, absent}
 use Rattle.bpg_codec.specs.Regions.{thenRest, itemThenRest, mappedExact, derived, guardedRegion, rest, verbatim, ValidEach, repeated}
 use Rattle.bpg_codec.proofs.Select.{select-true, select-false, and-left, and-right, is-true, is-false}
 use Rattle.bpg_numbers.specs.Ue7.{ue7, ue7Bytes}
+use Rattle.bpg_format.specs.Limits.{maxFile}
 use Rattle.bpg_format.specs.declared.record.Header.{Header}
 use Rattle.bpg_format.specs.Zero.{zeroHeader}
 use Rattle.bpg_format.specs.Content.{Flags, Extension, Loop, Content, hasAlpha, bitDepth}
@@ -262,11 +263,11 @@ module _ (c : Content) where
   abbrev front : List ℕ
   front = select (hasAlpha (c .flags)) (headerBytes (c .alphaHeader)) []
 
-  pub body-size : length (bodyBytes c) ≡ length front + length (headerBytes (c .colorHeader)) + length (c .pictureData)
+  pub body-size : length (bodyBytes c) ≡ length front + length (headerBytes (c .colorHeader)) + length (c .hevcData)
   unfolding bodyBytes
   body-size =
-      length-append front (headerBytes (c .colorHeader) ++ c .pictureData)
-      ∙ omega (arith, length-append (headerBytes (c .colorHeader)) (c .pictureData))
+      length-append front (headerBytes (c .colorHeader) ++ c .hevcData)
+      ∙ omega (arith, length-append (headerBytes (c .colorHeader)) (c .hevcData))
 
   pub file-size : length (fileOf c)
       ≡ 6 + length (ue7Bytes (c .width)) + length (ue7Bytes (c .height)) + length (ue7Bytes (dataLength c))
@@ -313,7 +314,7 @@ file-sound c v =
       height = p .1 .1 .1 .0 .0;
       height-not-zero = eqb-no (p .1 .1 .1 .0 .1);
       absent-block = block-none (c .flags .extensionPresent) (c .extensions) es;
-      at-most-16 = each .1;
+      entry-limit = each .1;
       entries = entries-sound false (c .extensions) (each .0) (c .loop) (λ _. v .1);
       one-loop = one-sound false (c .extensions) (each .0);
       no-loop = λ h. v .1 ∙ loop-none (c .extensions) h;
@@ -322,7 +323,7 @@ file-sound c v =
       alpha-header = alpha-some (hasAlpha (c .flags)) (bitDepth (c .flags)) (c .alphaHeader) (b .0);
       color-header = header-sound (bitDepth (c .flags)) (c .colorHeader) (b .1 .0);
       data-bytes = b .1 .1;
-      size = subst (λ (l : List ℕ). length l ≤ 16777216) (file-encode c) (leb→le _ _ (p .0));
+      size = subst (λ (l : List ℕ). length l ≤ maxFile) (file-encode c) (leb→le _ _ (p .0));
     }
 
 either-is : (a b : Bool) → T b → T (a || b)
@@ -335,8 +336,8 @@ counts true size = either-is (eqb size 0) (eqb size size) (eqb-refl size)
 counts false size = tt
 
 module _ (c : Content) (r : Rules c) where
-  fits : T (leb (length (file .encode c)) 16777216)
-  fits = le→leb _ _ (subst (λ (l : List ℕ). length l ≤ 16777216) (sym (file-encode c)) (r .size))
+  fits : T (leb (length (file .encode c)) maxFile)
+  fits = le→leb _ _ (subst (λ (l : List ℕ). length l ≤ maxFile) (sym (file-encode c)) (r .size))
 
   length-fits : lengthOf c < 2 ^ 32
   length-fits = omega (arith, length-encode c, length-size c, file-size c, r .size)
@@ -370,7 +371,7 @@ file-full c r =
       ((r .width, no-eqb (r .width-not-zero)),
       ((r .height, no-eqb (r .height-not-zero)),
       (length-fits c r,
-      (block-full (c .flags .extensionPresent) (c .extensions) (r .absent-block) es (r .at-most-16) (block-fits c r),
+      (block-full (c .flags .extensionPresent) (c .extensions) (r .absent-block) es (r .entry-limit) (block-fits c r),
       (unless-full (c .flags .animation) (hasLoop (c .extensions)) (λ a. rw (r .animated a) tt),
       (counts (c .explicitLength) _,
       (alpha-full (hasAlpha (c .flags)) d (c .alphaHeader) (r .no-alpha)

@@ -16,7 +16,7 @@ use Rattle.bpg_format.specs.declared.record.Header.{Header}
 use Rattle.bpg_format.specs.Zero.{zeroHeader}
 use Rattle.bpg_format.specs.Content.{Flags, Extension, Content, hasAlpha, bitDepth}
 use Rattle.bpg_format.specs.Syntax.{magic, byte4, byte5, extensionBytes, blockBytes, extensionPart, pcmBits, spsExtensionBits, headerBits, headerBytes, bodyBytes, dataLength, fileOf}
-use Rattle.bpg_format.specs.FileCodec.{flags, dimension, payload, extension, seenAfter, extensions, block, oneBit, optional, fieldSequence, fieldsOf, headerFields, header, alphaHeader, body, parts, lengthOf, partsOf, withLoop, file}
+use Rattle.bpg_format.specs.FileCodec.{flags, dimension, payload, extension, seenAfter, extensions, block, oneBit, optional, SizeFields, sizeFields, pcmFields, spsFields, noPcm, noSps, fieldSequence, sizesOf, pcmOf, headerFields, header, alphaHeader, body, parts, lengthOf, partsOf, withLoop, file}
 
 -- ---- the extension block
 
@@ -45,35 +45,44 @@ unfolding mapped bits
 one-bit true = refl
 one-bit false = refl
 
-pcm-part : (b : Bool) (v w x y : ℕ) (z : Bool) (r : List Bool)
-    → optional b (unsigned 4) 0 .encode v ++ (optional b (unsigned 4) 0 .encode w ++ (optional b expGolomb 0 .encode x ++ (optional b expGolomb 0 .encode y ++ (optional b oneBit false .encode z ++ r))))
-    ≡ select b (bits 4 v ++ (bits 4 w ++ (expGolombBits x ++ (expGolombBits y ++ (z ∷ []))))) [] ++ r
+optional-encode : {A : Type 0} (b : Bool) (c : Codec Bool A) (e a : A) → optional b c e .encode a ≡ select b (c .encode a) []
 unfolding select absent
-pcm-part true v w x y z r = rw (one-bit z) (simp append-assoc)
-pcm-part false v w x y z r = refl
+optional-encode true c e a = refl
+optional-encode false c e a = refl
 
-sps-part : (b : Bool) (f : Bool) (v : ℕ) (r : List Bool)
-    → optional b oneBit false .encode f ++ (optional b (unsigned 7) 0 .encode v ++ r) ≡ select b (f ∷ bits 7 v) [] ++ r
-unfolding select absent
-sps-part true f v r = rw (one-bit f)
-sps-part false f v r = refl
+sizes-encode : (x : SizeFields) → sizeFields .encode x
+    ≡ expGolombBits (x .0) ++ (expGolombBits (x .1 .0) ++ (expGolombBits (x .1 .1 .0) ++ (expGolombBits (x .1 .1 .1 .0) ++ expGolombBits (x .1 .1 .1 .1))))
+unfolding sizeFields sequence
+sizes-encode x = refl
 
-range-part : (b : Bool) (l : List Bool) → optional b (fixed Bit 9 15 atItem) (replicate 9 false) .encode l ≡ select b l []
-unfolding select absent fixed
-range-part true l = refl
-range-part false l = refl
+pcm-encode : (h : Header) → pcmFields .encode (pcmOf h) ≡ pcmBits h
+unfolding pcmFields sequence
+pcm-encode h = rw (one-bit (h .«pcm_loop_filter_disabled_flag»))
+
+sps-encode : (h : Header) → spsFields .encode (h .«sps_range_extension_flag», h .«sps_extension_7bits») ≡ spsExtensionBits h
+unfolding spsFields sequence
+sps-encode h = rw (one-bit (h .«sps_range_extension_flag»))
+
+nine-encode : (l : List Bool) → fixed Bit 9 15 atItem .encode l ≡ l
+unfolding fixed
+nine-encode l = refl
 
 pub fields-encode : (h : Header) → headerFields .encode h ≡ headerBits h
 unfolding headerFields mapped fieldSequence sequence headerBits
 fields-encode h =
     rw
-    (one-bit (h .«sample_adaptive_offset_enabled_flag»),
+    (sizes-encode (sizesOf h),
+    one-bit (h .«sample_adaptive_offset_enabled_flag»),
     one-bit (h .«pcm_enabled_flag»),
+    optional-encode (h .«pcm_enabled_flag») pcmFields noPcm (pcmOf h),
+    pcm-encode h,
     one-bit (h .«strong_intra_smoothing_enabled_flag»),
     one-bit (h .«sps_extension_present_flag»),
-    range-part (h .«sps_range_extension_flag») (h .«range_flags»),
-    sps-part (h .«sps_extension_present_flag») (h .«sps_range_extension_flag») (h .«sps_extension_7bits»),
-    pcm-part (h .«pcm_enabled_flag»))
+    optional-encode (h .«sps_extension_present_flag») spsFields noSps (h .«sps_range_extension_flag», h .«sps_extension_7bits»),
+    sps-encode h,
+    optional-encode (h .«sps_range_extension_flag») (fixed Bit 9 15 atItem) (replicate 9 false) (h .«range_flags»),
+    nine-encode (h .«range_flags»))
+    (simp append-assoc)
 
 pub header-encode : (depth : ℕ) (h : Header) → header depth .encode h ≡ headerBytes h
 unfolding header guarded item sized packed headerBytes
@@ -86,7 +95,7 @@ alpha-encode false depth h = refl
 
 -- ---- the file
 
-pub body-encode : (c : Content) → body (c .flags) .encode (c .alphaHeader, (c .colorHeader, c .pictureData)) ≡ bodyBytes c
+pub body-encode : (c : Content) → body (c .flags) .encode (c .alphaHeader, (c .colorHeader, c .hevcData)) ≡ bodyBytes c
 unfolding body thenRest alphaHeader rest bodyBytes
 body-encode c = rw (alpha-encode (hasAlpha (c .flags)) (bitDepth (c .flags)) (c .alphaHeader), header-encode (bitDepth (c .flags)) (c .colorHeader))
 

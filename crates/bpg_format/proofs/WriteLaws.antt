@@ -21,7 +21,7 @@ use Rattle.bpg_format.specs.Zero.{zeroHeader}
 use Rattle.bpg_format.specs.Content.{Flags, Extension, Loop, Content, hasAlpha, bitDepth}
 use Rattle.bpg_format.specs.Rules.{Coded, NoPcm, NoSpsExtension, FieldRules, ForbiddenBits, HevcRules, HeaderRules, LoopPayload, isLoop, ExtensionRules, hasLoop, OneLoop, noLoop, Rules}
 use Rattle.bpg_format.specs.FileCodec.{colorSpaceAllowed, notZero, loopNumbers, loopFrom, noForbiddenBit, hevcAllowed}
-use Rattle.bpg_format.specs.Write.{pcmZero, absentZero, headerZero, loopZero, empty, consistent, sameLoop, atZero, judgeLoop, judgeEntries, coded, fieldsCoded, judgeHeader, judgeContent}
+use Rattle.bpg_format.specs.Write.{pcmZero, absentZero, headerZero, consistent, sameLoop, atZero, checkLoop, checkEntries, coded, fieldsCoded, checkHeader, checkContent}
 use Rattle.bpg_format.proofs.FileLaws.{loopNumbers-lawful}
 use Rattle.bpg_format.proofs.HeaderRuleLaws.{unless, unless-full, forbidden-sound, forbidden-full, hevc-sound, hevc-full}
 use Rattle.bpg_format.proofs.RuleLaws.{bool-apart, by-tag, one-of, neither, flags-sound, flags-full, Numbers, loopOfNumbers, numbersOf, numbers-sound, numbers-full, none-seen, seen-none}
@@ -129,15 +129,15 @@ module _ (h : Header) where
   pub absent-of : FieldRules h → Absent
   absent-of r = record { no-pcm = r .no-pcm; no-extension = r .no-extension; no-range = λ e. rw (r .no-range e) tt }
 
-  pub header-judged : (depth : ℕ) → judgeHeader depth h ≡ ok tt → Absent → length (h .«range_flags») ≡ 9 → HeaderRules depth h
-  unfolding judgeHeader
-  header-judged depth e r n =
+  pub header-checked : (depth : ℕ) → checkHeader depth h ≡ ok tt → Absent → length (h .«range_flags») ≡ 9 → HeaderRules depth h
+  unfolding checkHeader
+  header-checked depth e r n =
       unguard (fieldsCoded h) 15 0 _ e λ t1 e1.
       unguard (noForbiddenBit h) 17 0 _ e1 λ t2 e2.
       record { fields = fields-sound t1 r n; forbidden = forbidden-sound h t2; hevc = hevc-sound depth h (guard-holds (hevcAllowed depth h) 16 0 e2) }
 
-  pub header-passes : (depth : ℕ) → HeaderRules depth h → judgeHeader depth h ≡ ok tt
-  unfolding judgeHeader
+  pub header-passes : (depth : ℕ) → HeaderRules depth h → checkHeader depth h ≡ ok tt
+  unfolding checkHeader
   header-passes depth r = rw (fields-full (r .fields), is-true (noForbiddenBit h) (forbidden-full h (r .forbidden)), is-true (hevcAllowed depth h) (hevc-full depth h (r .hevc)))
 
 -- ---- an absent alpha header
@@ -213,7 +213,7 @@ at-zero : {A : Type 0} (m : Outcome A) (a : A) → atZero m ≡ ok a → m ≡ o
 at-zero (ok b) a e = e
 at-zero (error s o) a e = absurd (error-not-ok e)
 
-same-loop : (p q : Loop) → T (sameLoop p q) → p ≡ q
+pub same-loop : (p q : Loop) → T (sameLoop p q) → p ≡ q
 same-loop p q t =
     let t1 = and-right (eqb (p .count) (q .count)) _ t in
     let a = eqb-yes (and-left (eqb (p .count) (q .count)) _ t) in
@@ -225,52 +225,52 @@ loop-same : (p : Loop) → sameLoop p p ≡ true
 loop-same p = rw (eq-eqb (p .count) (p .count) refl, eq-eqb (p .periodNum) (p .periodNum) refl, eq-eqb (p .periodDen) (p .periodDen) refl)
 
 -- a payload that passes holds the loop numbers
-loop-judged : (p : Loop) (l : List ℕ) → All Byte l → judgeLoop p l ≡ ok tt → (dummy : List ℕ) × LoopPayload l p dummy
-unfolding judgeLoop
-loop-judged p l h e =
+loop-checked : (p : Loop) (l : List ℕ) → All Byte l → checkLoop p l ≡ ok tt → (dummy : List ℕ) × LoopPayload l p dummy
+unfolding checkLoop
+loop-checked p l h e =
     unbind (atZero (loopNumbers .decode 0 0 l)) _ e λ x e1 e2.
     let d = at-zero (loopNumbers .decode 0 0 l) x e1 in
     let s = loopNumbers-lawful .encodes 0 0 l h x d in
     let q = same-loop p (loopOfNumbers x) (guard-holds (sameLoop p (loopOfNumbers x)) 19 0 e2) in
     (x .1 .1 .1, subst (λ (r : Loop). LoopPayload l r (x .1 .1 .1)) (sym q) (numbers-sound x l (s .0) (s .1)))
 
-loop-passes : (p : Loop) (l dummy : List ℕ) → LoopPayload l p dummy → judgeLoop p l ≡ ok tt
-unfolding judgeLoop
+loop-passes : (p : Loop) (l dummy : List ℕ) → LoopPayload l p dummy → checkLoop p l ≡ ok tt
+unfolding checkLoop
 loop-passes p l dummy r =
     let n = numbers-full l p dummy r in
     let d : loopNumbers .decode 0 0 l ≡ ok (numbersOf p dummy) = ap (loopNumbers .decode 0 0) (n .1) ∙ loopNumbers-lawful .decodes (numbersOf p dummy) (n .0) 0 0 in
     rw (d, loop-same p)
 
-pub record Judged (p : Loop) (seen : Bool) (es : List Extension) : Type 0 where
+pub record Checked (p : Loop) (seen : Bool) (es : List Extension) : Type 0 where
   pub entries : All (ExtensionRules p) es
   pub one-loop : OneLoop es
   pub no-more : seen ≡ true → hasLoop es ≡ false
 
-entry-judged : (p : Loop) (e : Extension) → e .tag < 2 ^ 32 → All Byte (e .payload) → select (isLoop e) (judgeLoop p (e .payload)) (ok tt) ≡ ok tt → ExtensionRules p e
-entry-judged p e t h k = record { tag = t; bytes = h; loop = λ l. loop-judged p (e .payload) h (sym (select-true _ _ l) ∙ k) }
+entry-checked : (p : Loop) (e : Extension) → e .tag < 2 ^ 32 → All Byte (e .payload) → select (isLoop e) (checkLoop p (e .payload)) (ok tt) ≡ ok tt → ExtensionRules p e
+entry-checked p e t h k = record { tag = t; bytes = h; loop = λ l. loop-checked p (e .payload) h (sym (select-true _ _ l) ∙ k) }
 
 abbrev pub TypedExtension : Extension → Type 0
 TypedExtension e = (e .tag < 2 ^ 32) × All Byte (e .payload)
 
-pub entries-judged : (p : Loop) (seen : Bool) (es : List Extension) → All TypedExtension es → judgeEntries p seen es ≡ ok tt → Judged p seen es
-unfolding judgeEntries
-entries-judged p seen [] h e = record { entries = tt; one-loop = tt; no-more = λ s. refl }
-entries-judged p seen (x ∷ es) h e =
+pub entries-checked : (p : Loop) (seen : Bool) (es : List Extension) → All TypedExtension es → checkEntries p seen es ≡ ok tt → Checked p seen es
+unfolding checkEntries
+entries-checked p seen [] h e = record { entries = tt; one-loop = tt; no-more = λ s. refl }
+entries-checked p seen (x ∷ es) h e =
     unguard (not (seen && isLoop x)) 13 0 _ e λ t e1.
-    unbind (select (isLoop x) (judgeLoop p (x .payload)) (ok tt)) _ e1 λ u e2 e3.
-    let ih = entries-judged p (seen || isLoop x) es (h .1) e3 in
+    unbind (select (isLoop x) (checkLoop p (x .payload)) (ok tt)) _ e1 λ u e2 e3.
+    let ih = entries-checked p (seen || isLoop x) es (h .1) e3 in
     record {
-      entries = (entry-judged p x (h .0 .0) (h .0 .1) e2, ih .entries);
+      entries = (entry-checked p x (h .0 .0) (h .0 .1) e2, ih .entries);
       one-loop = ((λ l. ih .no-more (rw l (or-true seen))), ih .one-loop);
       no-more = λ s. let n = none-seen seen (isLoop x) t s in rw n (ih .no-more (rw s));
     }
 
-pub entries-pass : (p : Loop) (seen : Bool) (es : List Extension) → All (ExtensionRules p) es → OneLoop es → (seen ≡ true → hasLoop es ≡ false) → judgeEntries p seen es ≡ ok tt
-unfolding judgeEntries
+pub entries-pass : (p : Loop) (seen : Bool) (es : List Extension) → All (ExtensionRules p) es → OneLoop es → (seen ≡ true → hasLoop es ≡ false) → checkEntries p seen es ≡ ok tt
+unfolding checkEntries
 entries-pass p seen [] r o f = refl
 entries-pass p seen (e ∷ es) r o f =
     let n = is-true (not (seen && isLoop e)) (seen-none seen (isLoop e) (λ h. neither (isLoop e) (hasLoop es) (f h) .0)) in
-    let l : select (isLoop e) (judgeLoop p (e .payload)) (ok tt) ≡ ok tt =
+    let l : select (isLoop e) (checkLoop p (e .payload)) (ok tt) ≡ ok tt =
     by-tag (isLoop e) (λ l. select-true _ _ l ∙ (let d = r .0 .loop l in loop-passes p (e .payload) (d .0) (d .1))) (λ l. select-false _ _ l) in
     rw (n, l)
     (entries-pass p (seen || isLoop e) es (r .1) (o .1) (λ h. one-of seen (isLoop e) h (λ g. neither (isLoop e) (hasLoop es) (f g) .1) (λ l. o .0 l)))

@@ -16,36 +16,29 @@ use Rattle.bpg_codec.proofs.Select.{select-true, select-false, is-true, and-lef
 use Rattle.bpg_codec.proofs.Outcome.{error-not-ok, ok-injective, unbind, unguard}
 use Rattle.bpg_codec.proofs.Tokens.{all-take, all-drop, all-replicate}
 use Rattle.bpg_numbers.specs.Ue7.{ue7Bytes}
+use Rattle.bpg_format.specs.Limits.{maxFile}
 use Rattle.bpg_format.specs.declared.record.Range.{Range}
 use Rattle.bpg_format.specs.declared.record.Entry.{Entry}
 use Rattle.bpg_format.specs.declared.record.Header.{Header}
 use Rattle.bpg_format.specs.declared.record.Record.{Record}
 use Rattle.bpg_format.specs.Zero.{range, zeroEntry, zeroHeader}
-use Rattle.bpg_format.specs.Content.{Extension, Loop, Content, hasAlpha, bitDepth}
+use Rattle.bpg_format.specs.Content.{isEmpty, Extension, Loop, Content, hasAlpha, bitDepth}
 use Rattle.bpg_format.specs.Syntax.{extensionBytes, blockBytes, fileOf}
 use Rattle.bpg_format.specs.Rules.{HeaderRules, hasLoop, noLoop, Rules}
 use Rattle.bpg_format.specs.FileCodec.{colorSpaceAllowed, notZero}
 use Rattle.bpg_format.specs.Records.{entriesAt, blockStart, dataStart, recordOf, bytesIn, extensionOf, usedEntries, contentOf}
-use Rattle.bpg_format.specs.Write.{inSource, entriesInSource, rangesInSource, isZero, zeroEntries, unusedZero, absentZero, headerZero, loopZero, empty, consistent, judgeEntries, judgeHeader, judgeContent, sizedFile, writeOutcome, Typed, Writable}
+use Rattle.bpg_format.specs.Write.{inSource, entriesInSource, rangesInSource, isZero, zeroEntries, unusedZero, absentZero, headerZero, sameLoop, consistent, checkEntries, checkHeader, checkContent, sizedFile, writeOutcome, Typed, Writable}
 use Rattle.bpg_format.proofs.HeaderRuleLaws.{unless, unless-full}
 use Rattle.bpg_format.proofs.RuleLaws.{bool-apart, by-tag, flags-sound, flags-full}
 use Rattle.bpg_format.proofs.RecordLaws.{used-entries, entries-length, content-record}
 use Rattle.bpg_format.proofs.RangeLaws.{start-after, data-end}
-use Rattle.bpg_format.proofs.WriteLaws.{or-test, or-full, Absent, absent-sound, absent-full, absent-of, header-zero-sound, header-zero-full, zero-absent, header-judged, header-passes, TypedExtension, entries-judged, entries-pass}
+use Rattle.bpg_format.proofs.WriteLaws.{same-loop, or-test, or-full, Absent, absent-sound, absent-full, absent-of, header-zero-sound, header-zero-full, zero-absent, header-checked, header-passes, TypedExtension, entries-checked, entries-pass}
 
 -- ---- the content
 
-empty-is : (es : List Extension) → T (empty es) → es ≡ []
+empty-is : (es : List Extension) → T (isEmpty es) → es ≡ []
 empty-is [] t = refl
 empty-is (e ∷ es) t = absurd t
-
-loop-zero : (p : Loop) → T (loopZero p) → p ≡ noLoop
-loop-zero p t =
-    let t1 = and-right (eqb (p .count) 0) _ t in
-    let a = eqb-yes (and-left (eqb (p .count) 0) _ t) in
-    let b = eqb-yes (and-left (eqb (p .periodNum) 0) _ t1) in
-    let c = eqb-yes (and-right (eqb (p .periodNum) 0) _ t1) in
-    λ z. record { count = a z; periodNum = b z; periodDen = c z }
 
 -- what a content has by the types of its record
 pub record TypedContent (c : Content) : Type 0 where
@@ -55,7 +48,7 @@ pub record TypedContent (c : Content) : Type 0 where
   pub extensions : All TypedExtension (c .extensions)
   pub alpha-nine : length (c .alphaHeader .«range_flags») ≡ 9
   pub color-nine : length (c .colorHeader .«range_flags») ≡ 9
-  pub data-bytes : All Byte (c .pictureData)
+  pub data-bytes : All Byte (c .hevcData)
 
 -- 19
 record Consistent (c : Content) : Type 0 where
@@ -68,15 +61,15 @@ record Consistent (c : Content) : Type 0 where
 consistent-sound : (c : Content) → TypedContent c → T (consistent c) → Consistent c
 unfolding consistent
 consistent-sound c h t =
-    let a : Bool = c .flags .extensionPresent || empty (c .extensions) in
-    let b : Bool = hasLoop (c .extensions) || loopZero (c .loop) in
+    let a : Bool = c .flags .extensionPresent || isEmpty (c .extensions) in
+    let b : Bool = hasLoop (c .extensions) || sameLoop (c .loop) noLoop in
     let d : Bool = hasAlpha (c .flags) || headerZero (c .alphaHeader) in
     let t1 = and-right a _ t in
     let t2 = and-right b _ t1 in
     let t3 = and-right d _ t2 in
     record {
-      absent-block = λ e. empty-is _ (or-test (c .flags .extensionPresent) (empty (c .extensions)) (and-left a _ t) e);
-      no-loop = λ e. loop-zero _ (or-test (hasLoop (c .extensions)) (loopZero (c .loop)) (and-left b _ t1) e);
+      absent-block = λ e. empty-is _ (or-test (c .flags .extensionPresent) (isEmpty (c .extensions)) (and-left a _ t) e);
+      no-loop = λ e. same-loop (c .loop) noLoop (or-test (hasLoop (c .extensions)) (sameLoop (c .loop) noLoop) (and-left b _ t1) e);
       no-alpha = λ e. header-zero-sound (c .alphaHeader) (or-test (hasAlpha (c .flags)) (headerZero (c .alphaHeader)) (and-left d _ t2) e) (h .alpha-nine);
       alpha = absent-sound (c .alphaHeader) (and-left (absentZero (c .alphaHeader)) _ t3);
       color = absent-sound (c .colorHeader) (and-right (absentZero (c .alphaHeader)) _ t3);
@@ -90,24 +83,24 @@ alpha-absent c r =
 consistent-full : (c : Content) → Rules c → consistent c ≡ true
 unfolding consistent
 consistent-full c r =
-    let a : (c .flags .extensionPresent || empty (c .extensions)) ≡ true = is-true _ (or-full (c .flags .extensionPresent) (empty (c .extensions)) (λ e. rw (r .absent-block e) tt)) in
-    let b : (hasLoop (c .extensions) || loopZero (c .loop)) ≡ true = is-true _ (or-full (hasLoop (c .extensions)) (loopZero (c .loop)) (λ e. rw (r .no-loop e) tt)) in
+    let a : (c .flags .extensionPresent || isEmpty (c .extensions)) ≡ true = is-true _ (or-full (c .flags .extensionPresent) (isEmpty (c .extensions)) (λ e. rw (r .absent-block e) tt)) in
+    let b : (hasLoop (c .extensions) || sameLoop (c .loop) noLoop) ≡ true = is-true _ (or-full (hasLoop (c .extensions)) (sameLoop (c .loop) noLoop) (λ e. rw (r .no-loop e) tt)) in
     let d : (hasAlpha (c .flags) || headerZero (c .alphaHeader)) ≡ true = is-true _ (or-full (hasAlpha (c .flags)) (headerZero (c .alphaHeader)) (λ e. header-zero-full (c .alphaHeader) (r .no-alpha e))) in
     rw (a, b, d, alpha-absent c r, absent-full (c .colorHeader) (absent-of (c .colorHeader) (r .color-header .fields)))
 
-content-judged : (c : Content) → TypedContent c → T (consistent c) → judgeContent c ≡ ok tt → length (fileOf c) ≤ 16777216 → Rules c
-unfolding judgeContent
-content-judged c h k e s =
+content-checked : (c : Content) → TypedContent c → T (consistent c) → checkContent c ≡ ok tt → length (fileOf c) ≤ maxFile → Rules c
+unfolding checkContent
+content-checked c h k e s =
     let a = consistent-sound c h k in
     unguard (leb (c .flags .pixelFormat) 5) 4 0 _ e λ t1 e1.
     unguard (leb (c .flags .bitDepthMinus8) 6) 5 0 _ e1 λ t2 e2.
     unguard (colorSpaceAllowed (c .flags)) 6 0 _ e2 λ t3 e3.
     unguard (notZero (c .width)) 9 0 _ e3 λ t4 e4.
     unguard (notZero (c .height)) 9 0 _ e4 λ t5 e5.
-    unbind (judgeEntries (c .loop) false (c .extensions)) _ e5 λ u e6 e7.
+    unbind (checkEntries (c .loop) false (c .extensions)) _ e5 λ u e6 e7.
     unguard (not (c .flags .animation) || hasLoop (c .extensions)) 14 0 _ e7 λ t8 e8.
-    unbind (select (hasAlpha (c .flags)) (judgeHeader (bitDepth (c .flags)) (c .alphaHeader)) (ok tt)) _ e8 λ v e9 e10.
-    let es = entries-judged (c .loop) false (c .extensions) (h .extensions) e6 in
+    unbind (select (hasAlpha (c .flags)) (checkHeader (bitDepth (c .flags)) (c .alphaHeader)) (ok tt)) _ e8 λ v e9 e10.
+    let es = entries-checked (c .loop) false (c .extensions) (h .extensions) e6 in
     record {
       pixel-format = leb→le _ _ t1;
       bit-depth = leb→le _ _ t2;
@@ -118,23 +111,23 @@ content-judged c h k e s =
       height = h .height;
       height-not-zero = eqb-no t5;
       absent-block = a .absent-block;
-      at-most-16 = h .few;
+      entry-limit = h .few;
       entries = es .entries;
       one-loop = es .one-loop;
       no-loop = a .no-loop;
       animated = λ f. is-true (hasLoop (c .extensions)) (unless (c .flags .animation) (hasLoop (c .extensions)) t8 f);
       no-alpha = a .no-alpha;
-      alpha-header = λ f. header-judged (c .alphaHeader) (bitDepth (c .flags)) (sym (select-true _ _ f) ∙ e9) (a .alpha) (h .alpha-nine);
-      color-header = header-judged (c .colorHeader) (bitDepth (c .flags)) e10 (a .color) (h .color-nine);
+      alpha-header = λ f. header-checked (c .alphaHeader) (bitDepth (c .flags)) (sym (select-true _ _ f) ∙ e9) (a .alpha) (h .alpha-nine);
+      color-header = header-checked (c .colorHeader) (bitDepth (c .flags)) e10 (a .color) (h .color-nine);
       data-bytes = h .data-bytes;
       size = s;
     }
 
-content-passes : (c : Content) → Rules c → judgeContent c ≡ ok tt
-unfolding judgeContent
+content-passes : (c : Content) → Rules c → checkContent c ≡ ok tt
+unfolding checkContent
 content-passes c r =
     let f = flags-full (c .flags) (r .pixel-format) (r .bit-depth) (r .color-space) (r .gray) in
-    let alpha : select (hasAlpha (c .flags)) (judgeHeader (bitDepth (c .flags)) (c .alphaHeader)) (ok tt) ≡ ok tt =
+    let alpha : select (hasAlpha (c .flags)) (checkHeader (bitDepth (c .flags)) (c .alphaHeader)) (ok tt) ≡ ok tt =
     by-tag (hasAlpha (c .flags)) (λ a. select-true _ _ a ∙ header-passes (c .alphaHeader) (bitDepth (c .flags)) (r .alpha-header a)) (λ a. select-false _ _ a) in
     rw
     (le-leb _ _ (r .pixel-format),
@@ -194,16 +187,16 @@ module _ (r : Record) (source : List ℕ) (typed : Typed r) (bytes : All Byte so
       }
 
   -- what is written is the file of a writable record
-  pub written-sound : (room : ℕ) (l : List ℕ) → writeOutcome room r source ≡ ok l → Writable room r source × (l ≡ fileOf (contentOf r source))
+  pub written-sound : (capacity : ℕ) (l : List ℕ) → writeOutcome capacity r source ≡ ok l → Writable capacity r source × (l ≡ fileOf (contentOf r source))
   unfolding writeOutcome sizedFile rangesInSource unusedZero
-  written-sound room l e =
+  written-sound capacity l e =
       let c = contentOf r source in
       unguard (leb (r .«entry_count») 16) 11 0 _ e λ t1 e1.
       unguard (rangesInSource source r) 18 0 _ e1 λ t2 e2.
       unguard (unusedZero r && consistent c) 19 0 _ e2 λ t3 e3.
-      unbind (judgeContent c) _ e3 λ u e4 e5.
-      unguard (leb (length (fileOf c)) 16777216) 1 0 _ e5 λ t6 e6.
-      unguard (leb (length (fileOf c)) room) 20 0 _ e6 λ t7 e7.
+      unbind (checkContent c) _ e3 λ u e4 e5.
+      unguard (leb (length (fileOf c)) maxFile) 1 0 _ e5 λ t6 e6.
+      unguard (leb (length (fileOf c)) capacity) 20 0 _ e6 λ t7 e7.
       let few = leb→le (r .«entry_count») 16 t1 in
       (
         record {
@@ -211,15 +204,15 @@ module _ (r : Record) (source : List ℕ) (typed : Typed r) (bytes : All Byte so
           payloads = in-source-sound source (usedEntries r) (and-left (entriesInSource source (usedEntries r)) _ t2);
           data-range = leb→le _ _ (and-right (entriesInSource source (usedEntries r)) _ t2);
           unused = zero-sound (drop (r .«entry_count») (r .entries)) (and-left (unusedZero r) _ t3);
-          rules = content-judged c (typed-content few) (and-right (unusedZero r) _ t3) e4 (leb→le _ _ t6);
+          rules = content-checked c (typed-content few) (and-right (unusedZero r) _ t3) e4 (leb→le _ _ t6);
           holds = leb→le _ _ t7;
         },
         sym (ok-injective e7),
       )
 
-pub written-full : (room : ℕ) (r : Record) (source : List ℕ) → Writable room r source → writeOutcome room r source ≡ ok (fileOf (contentOf r source))
+pub written-full : (capacity : ℕ) (r : Record) (source : List ℕ) → Writable capacity r source → writeOutcome capacity r source ≡ ok (fileOf (contentOf r source))
 unfolding writeOutcome sizedFile rangesInSource unusedZero
-written-full room r source w =
+written-full capacity r source w =
     rw
     (le-leb _ _ (w .few),
     in-source-full source (usedEntries r) (w .payloads),
@@ -245,13 +238,13 @@ entries-within (x ∷ es) p n h =
 padding-zero : (n : ℕ) → All (λ (e : Entry). e ≡ zeroEntry) (replicate n zeroEntry)
 padding-zero n = all-replicate (λ (e : Entry). e ≡ zeroEntry) n zeroEntry refl
 
-pub record-writable : (c : Content) → Rules c → (room : ℕ) → length (fileOf c) ≤ room → Writable room (recordOf c) (fileOf c)
+pub record-writable : (c : Content) → Rules c → (capacity : ℕ) → length (fileOf c) ≤ capacity → Writable capacity (recordOf c) (fileOf c)
 unfolding recordOf
-record-writable c r room h =
+record-writable c r capacity h =
     let same = content-record c r in
     let size = data-end c r in
     record {
-      few = r .at-most-16;
+      few = r .entry-limit;
       payloads =
           subst (All (λ (e : Entry). e .payload .start + e .payload .length ≤ length (fileOf c))) (sym (used-entries (blockStart c) (c .extensions)))
           (entries-within (c .extensions) (blockStart c) (length (fileOf c)) (omega (arith, start-after c)));
@@ -260,9 +253,9 @@ record-writable c r room h =
           subst (All (λ (e : Entry). e ≡ zeroEntry)) (sym (drop-at (entriesAt (blockStart c) (c .extensions)) _ (length (c .extensions)) (entries-length (blockStart c) (c .extensions))))
           (padding-zero (16 - length (entriesAt (blockStart c) (c .extensions))));
       rules = subst Rules (sym same) r;
-      holds = subst (λ (d : Content). length (fileOf d) ≤ room) (sym same) h;
+      holds = subst (λ (d : Content). length (fileOf d) ≤ capacity) (sym same) h;
     }
 
-pub record-written : (c : Content) → Rules c → (room : ℕ) → length (fileOf c) ≤ room → writeOutcome room (recordOf c) (fileOf c) ≡ ok (fileOf c)
-record-written c r room h =
-    written-full room (recordOf c) (fileOf c) (record-writable c r room h) ∙ ap {B = Outcome (List ℕ)} (λ (d : Content). ok (fileOf d)) (content-record c r)
+pub record-written : (c : Content) → Rules c → (capacity : ℕ) → length (fileOf c) ≤ capacity → writeOutcome capacity (recordOf c) (fileOf c) ≡ ok (fileOf c)
+record-written c r capacity h =
+    written-full capacity (recordOf c) (fileOf c) (record-writable c r capacity h) ∙ ap {B = Outcome (List ℕ)} (λ (d : Content). ok (fileOf d)) (content-record c r)

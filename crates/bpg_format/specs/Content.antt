@@ -1,6 +1,6 @@
 -- The content of a file (document 01, "Record and picture"): the record's fields, with bytes in place of ranges.
-use mathlib.Core.Bool.{Bool, _||_}
-use mathlib.Core.List.{List}
+use mathlib.Core.Bool.{Bool, true, false, _||_}
+use mathlib.Core.List.{List, [], _∷_}
 use Prim.Native.Nat.{ℕ, _+_}
 use Rattle.bpg_format.specs.declared.record.Header.{Header}
 
@@ -38,7 +38,11 @@ pub record Content : Type 0 where
   pub alphaHeader : Header
   pub colorHeader : Header
   -- item 7
-  pub pictureData : List ℕ
+  pub hevcData : List ℕ
+
+abbrev pub isEmpty : List Extension → Bool
+isEmpty [] = true
+isEmpty (e ∷ es) = false
 
 -- alpha1 or alpha2: an alpha (or W) plane is there (item 6)
 abbrev pub hasAlpha : Flags → Bool

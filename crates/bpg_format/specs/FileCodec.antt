@@ -15,6 +15,7 @@ use Rattle.bpg_codec.specs.Parts.{sequence, mapped, guarded, sized, item, absen
 use Rattle.bpg_codec.specs.Regions.{thenRest, itemThenRest, mappedExact, derived, guardedRegion, rest, verbatim, repeated, packed}
 use Rattle.bpg_numbers.specs.Ue7.{ue7}
 use Rattle.bpg_numbers.specs.BitNumbers.{unsigned, expGolomb}
+use Rattle.bpg_format.specs.Limits.{maxEntries, maxFile}
 use Rattle.bpg_format.specs.declared.record.Header.{Header}
 use Rattle.bpg_format.specs.Zero.{zeroHeader}
 use Rattle.bpg_format.specs.Content.{Flags, Extension, Loop, Content, hasAlpha, bitDepth}
@@ -98,7 +99,7 @@ abbrev pub seenAfter : Bool → Extension → Bool
 seenAfter seen e = seen || isLoop e
 
 unfoldable pub extensions : Exact ℕ (List Extension)
-extensions = repeated extension seenAfter 11 16 false
+extensions = repeated extension seenAfter 11 maxEntries false
 
 unfoldable pub block : Bool → Codec ℕ (List Extension)
 block present = select present (sized 2 (ue7 32) extensions) (absent [])
@@ -120,65 +121,96 @@ loopOf (e ∷ es) = select (isLoop e) (loopIn (e .payload)) (loopOf es)
 abbrev pub oneBit : Codec Bool Bool
 oneBit = mapped (unsigned 1) (λ v. eqb v 1) bit
 
--- a field that a flag leaves out has the value e
+-- fields that a flag leaves out have the value e
 abbrev pub optional : {A : Type 0} → Bool → Codec Bool A → A → Codec Bool A
 optional present c e = select present c (absent e)
 
-abbrev pub FieldTuple : Type 0
-FieldTuple =
-    ℕ × (ℕ × (ℕ × (ℕ × (ℕ × (Bool × (Bool × (ℕ × (ℕ × (ℕ × (ℕ × (Bool × (Bool × (Bool × (Bool × (ℕ × List Bool)))))))))))))))
+abbrev pub SizeFields : Type 0
+SizeFields = ℕ × (ℕ × (ℕ × (ℕ × ℕ)))
 
--- the fields in the specification's order
+unfoldable pub sizeFields : Codec Bool SizeFields
+sizeFields = sequence expGolomb λ _. sequence expGolomb λ _. sequence expGolomb λ _. sequence expGolomb λ _. expGolomb
+
+abbrev pub PcmFields : Type 0
+PcmFields = ℕ × (ℕ × (ℕ × (ℕ × Bool)))
+
+unfoldable pub pcmFields : Codec Bool PcmFields
+pcmFields = sequence (unsigned 4) λ _. sequence (unsigned 4) λ _. sequence expGolomb λ _. sequence expGolomb λ _. oneBit
+
+unfoldable pub spsFields : Codec Bool (Bool × ℕ)
+spsFields = sequence oneBit λ _. unsigned 7
+
+abbrev pub noPcm : PcmFields
+noPcm = (0, (0, (0, (0, false))))
+
+abbrev pub noSps : Bool × ℕ
+noSps = (false, 0)
+
+abbrev pub FieldTuple : Type 0
+FieldTuple = SizeFields × (Bool × (Bool × (PcmFields × (Bool × (Bool × ((Bool × ℕ) × List Bool))))))
+
+-- the fields in the specification's order: block sizes, sample adaptive offset, PCM, strong intra smoothing, SPS extension, range flags
 unfoldable pub fieldSequence : Codec Bool FieldTuple
 fieldSequence =
-    sequence expGolomb λ _. sequence expGolomb λ _. sequence expGolomb λ _. sequence expGolomb λ _. sequence expGolomb λ _.
-    sequence oneBit λ _. sequence oneBit λ pcm.
-    sequence (optional pcm (unsigned 4) 0) λ _. sequence (optional pcm (unsigned 4) 0) λ _.
-    sequence (optional pcm expGolomb 0) λ _. sequence (optional pcm expGolomb 0) λ _. sequence (optional pcm oneBit false) λ _.
-    sequence oneBit λ _. sequence oneBit λ sps.
-    sequence (optional sps oneBit false) λ range. sequence (optional sps (unsigned 7) 0) λ _.
-    optional range (fixed Bit 9 15 atItem) (replicate 9 false)
+    sequence sizeFields λ _.
+    sequence oneBit λ _.
+    sequence oneBit λ pcm.
+    sequence (optional pcm pcmFields noPcm) λ _.
+    sequence oneBit λ _.
+    sequence oneBit λ sps.
+    sequence (optional sps spsFields noSps) λ x.
+    optional (x .0) (fixed Bit 9 15 atItem) (replicate 9 false)
 
 abbrev pub headerFrom : FieldTuple → Header
 headerFrom x =
+    let pcm = x .1 .1 .1 .0 in
+    let sps = x .1 .1 .1 .1 .1 .1 .0 in
     record {
-      «log2_min_luma_coding_block_size_minus3» = x .0;
-      «log2_diff_max_min_luma_coding_block_size» = x .1 .0;
-      «log2_min_transform_block_size_minus2» = x .1 .1 .0;
-      «log2_diff_max_min_transform_block_size» = x .1 .1 .1 .0;
-      «max_transform_hierarchy_depth_intra» = x .1 .1 .1 .1 .0;
-      «sample_adaptive_offset_enabled_flag» = x .1 .1 .1 .1 .1 .0;
-      «pcm_enabled_flag» = x .1 .1 .1 .1 .1 .1 .0;
-      «pcm_sample_bit_depth_luma_minus1» = x .1 .1 .1 .1 .1 .1 .1 .0;
-      «pcm_sample_bit_depth_chroma_minus1» = x .1 .1 .1 .1 .1 .1 .1 .1 .0;
-      «log2_min_pcm_luma_coding_block_size_minus3» = x .1 .1 .1 .1 .1 .1 .1 .1 .1 .0;
-      «log2_diff_max_min_pcm_luma_coding_block_size» = x .1 .1 .1 .1 .1 .1 .1 .1 .1 .1 .0;
-      «pcm_loop_filter_disabled_flag» = x .1 .1 .1 .1 .1 .1 .1 .1 .1 .1 .1 .0;
-      «strong_intra_smoothing_enabled_flag» = x .1 .1 .1 .1 .1 .1 .1 .1 .1 .1 .1 .1 .0;
-      «sps_extension_present_flag» = x .1 .1 .1 .1 .1 .1 .1 .1 .1 .1 .1 .1 .1 .0;
-      «sps_range_extension_flag» = x .1 .1 .1 .1 .1 .1 .1 .1 .1 .1 .1 .1 .1 .1 .0;
-      «sps_extension_7bits» = x .1 .1 .1 .1 .1 .1 .1 .1 .1 .1 .1 .1 .1 .1 .1 .0;
-      «range_flags» = x .1 .1 .1 .1 .1 .1 .1 .1 .1 .1 .1 .1 .1 .1 .1 .1;
+      «log2_min_luma_coding_block_size_minus3» = x .0 .0;
+      «log2_diff_max_min_luma_coding_block_size» = x .0 .1 .0;
+      «log2_min_transform_block_size_minus2» = x .0 .1 .1 .0;
+      «log2_diff_max_min_transform_block_size» = x .0 .1 .1 .1 .0;
+      «max_transform_hierarchy_depth_intra» = x .0 .1 .1 .1 .1;
+      «sample_adaptive_offset_enabled_flag» = x .1 .0;
+      «pcm_enabled_flag» = x .1 .1 .0;
+      «pcm_sample_bit_depth_luma_minus1» = pcm .0;
+      «pcm_sample_bit_depth_chroma_minus1» = pcm .1 .0;
+      «log2_min_pcm_luma_coding_block_size_minus3» = pcm .1 .1 .0;
+      «log2_diff_max_min_pcm_luma_coding_block_size» = pcm .1 .1 .1 .0;
+      «pcm_loop_filter_disabled_flag» = pcm .1 .1 .1 .1;
+      «strong_intra_smoothing_enabled_flag» = x .1 .1 .1 .1 .0;
+      «sps_extension_present_flag» = x .1 .1 .1 .1 .1 .0;
+      «sps_range_extension_flag» = sps .0;
+      «sps_extension_7bits» = sps .1;
+      «range_flags» = x .1 .1 .1 .1 .1 .1 .1;
     }
 
-abbrev pub fieldsOf : Header → FieldTuple
-fieldsOf h =
+abbrev pub sizesOf : Header → SizeFields
+sizesOf h =
     (h .«log2_min_luma_coding_block_size_minus3»,
     (h .«log2_diff_max_min_luma_coding_block_size»,
     (h .«log2_min_transform_block_size_minus2»,
     (h .«log2_diff_max_min_transform_block_size»,
-    (h .«max_transform_hierarchy_depth_intra»,
-    (h .«sample_adaptive_offset_enabled_flag»,
-    (h .«pcm_enabled_flag»,
+    h .«max_transform_hierarchy_depth_intra»))))
+
+abbrev pub pcmOf : Header → PcmFields
+pcmOf h =
     (h .«pcm_sample_bit_depth_luma_minus1»,
     (h .«pcm_sample_bit_depth_chroma_minus1»,
     (h .«log2_min_pcm_luma_coding_block_size_minus3»,
     (h .«log2_diff_max_min_pcm_luma_coding_block_size»,
-    (h .«pcm_loop_filter_disabled_flag»,
+    h .«pcm_loop_filter_disabled_flag»))))
+
+abbrev pub fieldsOf : Header → FieldTuple
+fieldsOf h =
+    (sizesOf h,
+    (h .«sample_adaptive_offset_enabled_flag»,
+    (h .«pcm_enabled_flag»,
+    (pcmOf h,
     (h .«strong_intra_smoothing_enabled_flag»,
     (h .«sps_extension_present_flag»,
-    (h .«sps_range_extension_flag»,
-    (h .«sps_extension_7bits», h .«range_flags»))))))))))))))))
+    ((h .«sps_range_extension_flag», h .«sps_extension_7bits»),
+    h .«range_flags»)))))))
 
 unfoldable pub headerFields : Codec Bool Header
 headerFields = mapped fieldSequence headerFrom fieldsOf
@@ -230,7 +262,7 @@ Parts = Flags × (ℕ × (ℕ × (ℕ × (List Extension × (Header × (Header �
 
 unfoldable pub parts : Exact ℕ Parts
 parts =
-    guardedRegion (λ size. leb size 16777216) 1 (λ _ _. 0)
+    guardedRegion (λ size. leb size maxFile) 1 (λ _ _. 0)
     (thenRest flags λ f.
     thenRest dimension λ _.
     thenRest dimension λ _.
@@ -254,15 +286,15 @@ contentFrom x =
       loop = x .1;
       alphaHeader = x .0 .1 .1 .1 .1 .1 .0;
       colorHeader = x .0 .1 .1 .1 .1 .1 .1 .0;
-      pictureData = x .0 .1 .1 .1 .1 .1 .1 .1;
+      hevcData = x .0 .1 .1 .1 .1 .1 .1 .1;
     }
 
 abbrev pub lengthOf : Content → ℕ
-lengthOf c = select (c .explicitLength) (length (body (c .flags) .encode (c .alphaHeader, (c .colorHeader, c .pictureData)))) 0
+lengthOf c = select (c .explicitLength) (length (body (c .flags) .encode (c .alphaHeader, (c .colorHeader, c .hevcData)))) 0
 
 abbrev pub partsOf : Content → Parts × Loop
 partsOf c =
-    ((c .flags, (c .width, (c .height, (lengthOf c, (c .extensions, (c .alphaHeader, (c .colorHeader, c .pictureData))))))), c .loop)
+    ((c .flags, (c .width, (c .height, (lengthOf c, (c .extensions, (c .alphaHeader, (c .colorHeader, c .hevcData))))))), c .loop)
 
 unfoldable pub file : Exact ℕ Content
 file = mappedExact withLoop contentFrom partsOf

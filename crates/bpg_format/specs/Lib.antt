@@ -1,4 +1,5 @@
 -- The BPG format, in document 01's order.
+pub mod Limits
 pub mod Zero
 pub mod Content
 pub mod Syntax

@@ -11,12 +11,12 @@ use Rattle.bpg_codec.specs.Bits.{allZero}
 use Rattle.bpg_numbers.specs.Ue7.{ue7Bytes}
 use Rattle.bpg_format.specs.declared.record.Header.{Header}
 use Rattle.bpg_format.specs.declared.answer.Written.{Written}
-use Rattle.bpg_format.specs.Content.{Flags, Extension, Loop, Content}
+use Rattle.bpg_format.specs.Content.{isEmpty, Extension, Loop, Content}
 use Rattle.bpg_format.specs.Syntax.{fileOf}
 use Rattle.bpg_format.specs.Rules.{isLoop, Rules}
 use Rattle.bpg_format.specs.FileCodec.{loopNumbers}
 use Rattle.bpg_format.specs.Read.{readContent}
-use Rattle.bpg_format.specs.Write.{empty, writtenAnswer, writtenBuffer}
+use Rattle.bpg_format.specs.Write.{writtenAnswer, writtenBuffer}
 
 -- ---- the picture: the content without the four encoding choices
 
@@ -54,7 +54,7 @@ pub record Picture : Type 0 where
   pub loop : Loop
   pub alphaHeader : PictureHeader
   pub colorHeader : PictureHeader
-  pub pictureData : List ℕ
+  pub hevcData : List ℕ
 
 abbrev pub pictureHeader : Header → PictureHeader
 pictureHeader h =
@@ -95,7 +95,7 @@ pictureOf c =
       loop = c .loop;
       alphaHeader = pictureHeader (c .alphaHeader);
       colorHeader = pictureHeader (c .colorHeader);
-      pictureData = c .pictureData;
+      hevcData = c .hevcData;
     }
 
 -- ---- the content of a picture with given encoding choices
@@ -162,7 +162,7 @@ withChoices p ch =
       loop = p .loop;
       alphaHeader = headerWith (ch .alphaSps) (ch .alphaRange) (p .alphaHeader);
       colorHeader = headerWith (ch .colorSps) (ch .colorRange) (p .colorHeader);
-      pictureData = p .pictureData;
+      hevcData = p .hevcData;
     }
 
 -- ---- the canonical form (document 01: tidy form)
@@ -176,7 +176,7 @@ abbrev pub canonicalChoices : Picture → Choices
 canonicalChoices p =
     record {
       explicitLength = false;
-      extensionPresent = not (empty (p .entries));
+      extensionPresent = not (isEmpty (p .entries));
       alphaSps = needsRange (p .alphaHeader);
       alphaRange = needsRange (p .alphaHeader);
       colorSps = needsRange (p .colorHeader);
@@ -228,10 +228,10 @@ SamePicture f g = (p : Picture) × Shows f p × Shows g p
 
 -- ---- what canonicalizing answers: the reader's refusals, then 20
 
-unfoldable pub canonicalOutcome : (room : ℕ) → List ℕ → Outcome (List ℕ)
-canonicalOutcome room f =
+unfoldable pub canonicalOutcome : (capacity : ℕ) → List ℕ → Outcome (List ℕ)
+canonicalOutcome capacity f =
     readContent f >>= λ c.
-    guard (leb (length (canonicalBytes c)) room) 20 0 >>= λ _.
+    guard (leb (length (canonicalBytes c)) capacity) 20 0 >>= λ _.
     ok (canonicalBytes c)
 
 unfoldable pub canonicalFile : (f out : List ℕ) → Written

@@ -6,6 +6,7 @@ use lib.ListN.{length, take, drop, getD, replicate}
 use Rattle.bpg_codec.specs.Select.{select}
 use Rattle.bpg_codec.specs.Outcome.{Outcome, ok, error}
 use Rattle.bpg_numbers.specs.Ue7.{ue7Bytes}
+use Rattle.bpg_format.specs.Limits.{maxEntries}
 use Rattle.bpg_format.specs.declared.record.Range.{Range}
 use Rattle.bpg_format.specs.declared.record.Entry.{Entry}
 use Rattle.bpg_format.specs.declared.record.Header.{Header}
@@ -28,7 +29,7 @@ entriesAt p (e ∷ es) =
 
 -- unused entries are zero
 abbrev pub padEntries : List Entry → List Entry
-padEntries es = es ++ replicate (16 - length es) zeroEntry
+padEntries es = es ++ replicate (maxEntries - length es) zeroEntry
 
 -- where the extension length would stand: after magic, bytes 4 and 5, width, height and data length
 unfoldable pub headEnd : Content → ℕ
@@ -62,7 +63,7 @@ recordOf c =
       «frame_period_num» = c .loop .periodNum;
       «frame_period_den» = c .loop .periodDen;
       headers = c .alphaHeader ∷ c .colorHeader ∷ [];
-      «data» = range (dataStart c) (length (c .pictureData));
+      «data» = range (dataStart c) (length (c .hevcData));
     }
 
 -- ---- from a record over its source to its content: the bytes in place of the ranges
@@ -97,7 +98,7 @@ contentOf r source =
       loop = record { count = r .«loop_count»; periodNum = r .«frame_period_num»; periodDen = r .«frame_period_den» };
       alphaHeader = getD (r .headers) 0 zeroHeader;
       colorHeader = getD (r .headers) 1 zeroHeader;
-      pictureData = bytesIn source (r .«data»);
+      hevcData = bytesIn source (r .«data»);
     }
 
 -- ---- what reading answers

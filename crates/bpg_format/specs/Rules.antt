@@ -9,6 +9,7 @@ use lib.ListN.{length, getD, replicate}
 use Rattle.bpg_codec.specs.Select.{select}
 use Rattle.bpg_codec.specs.Lawful.{All, Byte}
 use Rattle.bpg_numbers.specs.Ue7.{ue7Bytes}
+use Rattle.bpg_format.specs.Limits.{maxEntries, maxFile}
 use Rattle.bpg_format.specs.declared.record.Header.{Header}
 use Rattle.bpg_format.specs.Content.{Flags, Extension, Loop, Content, hasAlpha, bitDepth}
 use Rattle.bpg_format.specs.Syntax.{fileOf}
@@ -134,7 +135,7 @@ pub record Rules (c : Content) : Type 0 where
   pub height : c .height < 2 ^ 32
   pub height-not-zero : c .height ≢ 0
   pub absent-block : c .flags .extensionPresent ≡ false → c .extensions ≡ []
-  pub at-most-16 : length (c .extensions) ≤ 16
+  pub entry-limit : length (c .extensions) ≤ maxEntries
   pub entries : All (ExtensionRules (c .loop)) (c .extensions)
   pub one-loop : OneLoop (c .extensions)
   pub no-loop : hasLoop (c .extensions) ≡ false → c .loop ≡ noLoop
@@ -142,8 +143,8 @@ pub record Rules (c : Content) : Type 0 where
   pub no-alpha : hasAlpha (c .flags) ≡ false → c .alphaHeader ≡ zeroHeader
   pub alpha-header : hasAlpha (c .flags) ≡ true → HeaderRules (bitDepth (c .flags)) (c .alphaHeader)
   pub color-header : HeaderRules (bitDepth (c .flags)) (c .colorHeader)
-  pub data-bytes : All Byte (c .pictureData)
-  pub size : length (fileOf c) ≤ 16777216
+  pub data-bytes : All Byte (c .hevcData)
+  pub size : length (fileOf c) ≤ maxFile
 
 -- a file is accepted when it is the syntax's file of a content that keeps the rules
 abbrev pub Accepted : List ℕ → Type 0

@@ -67,7 +67,7 @@ headerBytes h = ue7Bytes (length (padded (headerBits h))) ++ padded (headerBits 
 
 -- 6 and 7, which the data length counts: the alpha plane's header first, the colour's, and the data
 unfoldable pub bodyBytes : Content → List ℕ
-bodyBytes c = select (hasAlpha (c .flags)) (headerBytes (c .alphaHeader)) [] ++ (headerBytes (c .colorHeader) ++ c .pictureData)
+bodyBytes c = select (hasAlpha (c .flags)) (headerBytes (c .alphaHeader)) [] ++ (headerBytes (c .colorHeader) ++ c .hevcData)
 
 unfoldable pub dataLength : Content → ℕ
 dataLength c = select (c .explicitLength) (length (bodyBytes c)) 0

@@ -9,15 +9,16 @@ use Rattle.bpg_codec.specs.Select.{select}
 use Rattle.bpg_codec.specs.Outcome.{Outcome, ok, error, _>>=_, guard}
 use Rattle.bpg_codec.specs.Lawful.{All}
 use Rattle.bpg_codec.specs.Bits.{allZero}
+use Rattle.bpg_format.specs.Limits.{maxEntries, maxFile}
 use Rattle.bpg_format.specs.declared.record.Range.{Range}
 use Rattle.bpg_format.specs.declared.record.Entry.{Entry}
 use Rattle.bpg_format.specs.declared.record.Header.{Header}
 use Rattle.bpg_format.specs.declared.record.Record.{Record}
 use Rattle.bpg_format.specs.declared.answer.Written.{Written}
 use Rattle.bpg_format.specs.Zero.{zeroEntry, zeroHeader, refusedWritten}
-use Rattle.bpg_format.specs.Content.{Flags, Extension, Loop, Content, hasAlpha, bitDepth}
+use Rattle.bpg_format.specs.Content.{Flags, isEmpty, Extension, Loop, Content, hasAlpha, bitDepth}
 use Rattle.bpg_format.specs.Syntax.{fileOf}
-use Rattle.bpg_format.specs.Rules.{isLoop, hasLoop, Rules}
+use Rattle.bpg_format.specs.Rules.{isLoop, hasLoop, noLoop, Rules}
 use Rattle.bpg_format.specs.FileCodec.{colorSpaceAllowed, notZero, loopNumbers, loopFrom, noForbiddenBit, hevcAllowed}
 use Rattle.bpg_format.specs.Records.{usedEntries, contentOf}
 
@@ -72,25 +73,18 @@ headerZero h =
     && (not (h .«strong_intra_smoothing_enabled_flag»)
     && (not (h .«sps_extension_present_flag») && absentZero h))))))))
 
-abbrev pub loopZero : Loop → Bool
-loopZero p = eqb (p .count) 0 && (eqb (p .periodNum) 0 && eqb (p .periodDen) 0)
-
-abbrev pub empty : List Extension → Bool
-empty [] = true
-empty (e ∷ es) = false
+abbrev pub sameLoop : Loop → Loop → Bool
+sameLoop p q = eqb (p .count) (q .count) && (eqb (p .periodNum) (q .periodNum) && eqb (p .periodDen) (q .periodDen))
 
 -- entries without the extension flag; loop numbers without a tag 5 entry; an alpha header without alpha
 unfoldable pub consistent : Content → Bool
 consistent c =
-    (c .flags .extensionPresent || empty (c .extensions))
-    && ((hasLoop (c .extensions) || loopZero (c .loop))
+    (c .flags .extensionPresent || isEmpty (c .extensions))
+    && ((hasLoop (c .extensions) || sameLoop (c .loop) noLoop)
     && ((hasAlpha (c .flags) || headerZero (c .alphaHeader))
     && (absentZero (c .alphaHeader) && absentZero (c .colorHeader))))
 
 -- ---- the rules in file order
-
-abbrev pub sameLoop : Loop → Loop → Bool
-sameLoop p q = eqb (p .count) (q .count) && (eqb (p .periodNum) (q .periodNum) && eqb (p .periodDen) (q .periodDen))
 
 -- a refusal of reading, at place 0
 abbrev pub atZero : {A : Type 0} → Outcome A → Outcome A
@@ -98,15 +92,15 @@ atZero (ok a) = ok a
 atZero (error s o) = error s 0
 
 -- a tag 5 payload's own refusals, then 19 if the loop numbers differ
-unfoldable pub judgeLoop : Loop → List ℕ → Outcome (Unit {0})
-judgeLoop p l = atZero (loopNumbers .decode 0 0 l) >>= λ x. guard (sameLoop p (loopFrom (ok x))) 19 0
+unfoldable pub checkLoop : Loop → List ℕ → Outcome (Unit {0})
+checkLoop p l = atZero (loopNumbers .decode 0 0 l) >>= λ x. guard (sameLoop p (loopFrom (ok x))) 19 0
 
-unfoldable pub judgeEntries : Loop → (seen : Bool) → List Extension → Outcome (Unit {0})
-judgeEntries p seen [] = ok tt
-judgeEntries p seen (e ∷ es) =
+unfoldable pub checkEntries : Loop → (seen : Bool) → List Extension → Outcome (Unit {0})
+checkEntries p seen [] = ok tt
+checkEntries p seen (e ∷ es) =
     guard (not (seen && isLoop e)) 13 0 >>= λ _.
-    select (isLoop e) (judgeLoop p (e .payload)) (ok tt) >>= λ _.
-    judgeEntries p (seen || isLoop e) es
+    select (isLoop e) (checkLoop p (e .payload)) (ok tt) >>= λ _.
+    checkEntries p (seen || isLoop e) es
 
 -- a ue(v) field of 2^32 - 1 is 15
 abbrev pub coded : ℕ → Bool
@@ -122,40 +116,40 @@ fieldsCoded h =
     && (not (h .«pcm_enabled_flag»)
     || (coded (h .«log2_min_pcm_luma_coding_block_size_minus3») && coded (h .«log2_diff_max_min_pcm_luma_coding_block_size»)))))))
 
-unfoldable pub judgeHeader : (depth : ℕ) → Header → Outcome (Unit {0})
-judgeHeader depth h =
+unfoldable pub checkHeader : (depth : ℕ) → Header → Outcome (Unit {0})
+checkHeader depth h =
     guard (fieldsCoded h) 15 0 >>= λ _.
     guard (noForbiddenBit h) 17 0 >>= λ _.
     guard (hevcAllowed depth h) 16 0
 
-unfoldable pub judgeContent : Content → Outcome (Unit {0})
-judgeContent c =
+unfoldable pub checkContent : Content → Outcome (Unit {0})
+checkContent c =
     guard (leb (c .flags .pixelFormat) 5) 4 0 >>= λ _.
     guard (leb (c .flags .bitDepthMinus8) 6) 5 0 >>= λ _.
     guard (colorSpaceAllowed (c .flags)) 6 0 >>= λ _.
     guard (notZero (c .width)) 9 0 >>= λ _.
     guard (notZero (c .height)) 9 0 >>= λ _.
-    judgeEntries (c .loop) false (c .extensions) >>= λ _.
+    checkEntries (c .loop) false (c .extensions) >>= λ _.
     guard (not (c .flags .animation) || hasLoop (c .extensions)) 14 0 >>= λ _.
-    select (hasAlpha (c .flags)) (judgeHeader (bitDepth (c .flags)) (c .alphaHeader)) (ok tt) >>= λ _.
-    judgeHeader (bitDepth (c .flags)) (c .colorHeader)
+    select (hasAlpha (c .flags)) (checkHeader (bitDepth (c .flags)) (c .alphaHeader)) (ok tt) >>= λ _.
+    checkHeader (bitDepth (c .flags)) (c .colorHeader)
 
 -- ---- what writing answers, and what stands in the buffer
 
 -- the bytes of a content, where they are not too many and the buffer holds them
-unfoldable pub sizedFile : (room : ℕ) → Content → Outcome (List ℕ)
-sizedFile room c =
-    guard (leb (length (fileOf c)) 16777216) 1 0 >>= λ _.
-    guard (leb (length (fileOf c)) room) 20 0 >>= λ _.
+unfoldable pub sizedFile : (capacity : ℕ) → Content → Outcome (List ℕ)
+sizedFile capacity c =
+    guard (leb (length (fileOf c)) maxFile) 1 0 >>= λ _.
+    guard (leb (length (fileOf c)) capacity) 20 0 >>= λ _.
     ok (fileOf c)
 
-unfoldable pub writeOutcome : (room : ℕ) → Record → (source : List ℕ) → Outcome (List ℕ)
-writeOutcome room r source =
-    guard (leb (r .«entry_count») 16) 11 0 >>= λ _.
+unfoldable pub writeOutcome : (capacity : ℕ) → Record → (source : List ℕ) → Outcome (List ℕ)
+writeOutcome capacity r source =
+    guard (leb (r .«entry_count») maxEntries) 11 0 >>= λ _.
     guard (rangesInSource source r) 18 0 >>= λ _.
     guard (unusedZero r && consistent (contentOf r source)) 19 0 >>= λ _.
-    judgeContent (contentOf r source) >>= λ _.
-    sizedFile room (contentOf r source)
+    checkContent (contentOf r source) >>= λ _.
+    sizedFile capacity (contentOf r source)
 
 -- a success writes its bytes from the start of the buffer; a refusal leaves it as it was
 abbrev pub writtenAnswer : Outcome (List ℕ) → Written
@@ -184,10 +178,10 @@ pub record Typed (r : Record) : Type 0 where
 
 -- a record that is written: its count is within the limit, the ranges in use lie in the source, unused entries are zero, its content keeps
 -- the rules (absent fields are zero among them), and the buffer holds its file
-pub record Writable (room : ℕ) (r : Record) (source : List ℕ) : Type 0 where
-  pub few : r .«entry_count» ≤ 16
+pub record Writable (capacity : ℕ) (r : Record) (source : List ℕ) : Type 0 where
+  pub few : r .«entry_count» ≤ maxEntries
   pub payloads : All (λ (e : Entry). e .payload .start + e .payload .length ≤ length source) (usedEntries r)
   pub data-range : r .«data» .start + r .«data» .length ≤ length source
   pub unused : All (λ (e : Entry). e ≡ zeroEntry) (drop (r .«entry_count») (r .entries))
   pub rules : Rules (contentOf r source)
-  pub holds : length (fileOf (contentOf r source)) ≤ room
+  pub holds : length (fileOf (contentOf r source)) ≤ capacity

@@ -3,6 +3,7 @@ use mathlib.Core.Bool.{true, false}
 use mathlib.Core.List.{List}
 use Prim.Native.Nat.{ℕ}
 use lib.ListN.{replicate}
+use Rattle.bpg_format.specs.Limits.{maxEntries}
 use Rattle.bpg_format.specs.declared.record.Range.{Range}
 use Rattle.bpg_format.specs.declared.record.Entry.{Entry}
 use Rattle.bpg_format.specs.declared.record.Header.{Header}
@@ -53,7 +54,7 @@ zeroRecord =
       «picture_height» = 0;
       «explicit_length» = false;
       «entry_count» = 0;
-      entries = replicate 16 zeroEntry;
+      entries = replicate maxEntries zeroEntry;
       «loop_count» = 0;
       «frame_period_num» = 0;
       «frame_period_den» = 0;

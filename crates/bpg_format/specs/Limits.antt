@@ -1,0 +1,8 @@
+-- House rules of document 01: at most 16 entries, at most 16,777,216 bytes a file.
+use Prim.Native.Nat.{ℕ}
+
+abbrev pub maxEntries : ℕ
+maxEntries = 16
+
+abbrev pub maxFile : ℕ
+maxFile = 16777216
