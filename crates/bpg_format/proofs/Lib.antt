@@ -14,3 +14,4 @@ pub mod WriteLaws
 pub mod Writing
 pub mod Canonical
 pub mod Requirements
+pub mod WritingRefusals

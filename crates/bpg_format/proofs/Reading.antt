@@ -12,9 +12,9 @@ use Rattle.bpg_format.specs.declared.answer.Reading.{Reading}
 use Rattle.bpg_format.specs.Zero.{refusedReading}
 use Rattle.bpg_format.specs.Content.{Content}
 use Rattle.bpg_format.specs.Syntax.{fileOf}
-use Rattle.bpg_format.specs.Rules.{Rules, Accepted, ReadingStatus}
+use Rattle.bpg_format.specs.Rules.{Rules, Accepted}
 use Rattle.bpg_format.specs.FileCodec.{file}
-use Rattle.bpg_format.specs.Read.{readContent}
+use Rattle.bpg_format.specs.Read.{readContent, ReadingStatus}
 use Rattle.bpg_format.specs.Records.{answerOf, readFile}
 use Rattle.bpg_format.proofs.FileLaws.{file-lawful}
 use Rattle.bpg_format.proofs.Chain.{content-chain}

@@ -20,9 +20,9 @@ use Rattle.bpg_format.specs.Limits.{maxEntries, maxFile}
 use Rattle.bpg_format.specs.Zero.{zeroHeader}
 use Rattle.bpg_format.specs.Content.{Flags, Extension, Content, hasAlpha, bitDepth}
 use Rattle.bpg_format.specs.Syntax.{magic}
-use Rattle.bpg_format.specs.Rules.{hasLoop, ReadingStatus}
+use Rattle.bpg_format.specs.Rules.{hasLoop}
 use Rattle.bpg_format.specs.FileCodec.{flagsOf, colorSpaceAllowed, readFlags, flags, notZero, dimension, period, loopNumbers, payload, extension, seenAfter, extensions, block, loopOf, oneBit, optional, sizeFields, pcmFields, spsFields, noPcm, noSps, fieldSequence, headerFrom, fieldsOf, headerFields, noForbiddenBit, hevcAllowed, header, alphaHeader, body, countsBody, Parts, parts, withLoop, contentFrom, partsOf, file}
-use Rattle.bpg_format.specs.Read.{readContent}
+use Rattle.bpg_format.specs.Read.{readContent, ReadingStatus}
 use Rattle.bpg_format.proofs.Chain.{content-chain}
 
 abbrev Numbered : (status offset : ℕ) → Type 0
@@ -39,19 +39,17 @@ number n = ue7-refuses Numbered (λ _. omega arith) (λ _. omega arith) (λ _. o
 
 -- ---- the extension block
 
-period-refuses : C period
-unfolding period
-period-refuses = guarded-refuses Numbered notZero 12 atOwn (λ _. omega arith) (number 16)
-
-loop-refuses : E loopNumbers
-unfolding loopNumbers
-loop-refuses =
-    thenRest-refuses Numbered (number 16) λ _. thenRest-refuses Numbered period-refuses λ _.
-    thenRest-refuses Numbered period-refuses λ _. rest-refuses Numbered Byte
+-- a tag 5 payload's own refusals are 2, 7, 8 and 12
+pub loop-refuses : (P : ℕ → ℕ → Type 0) → ((o : ℕ) → P 2 o) → ((o : ℕ) → P 7 o) → ((o : ℕ) → P 8 o) → ((o : ℕ) → P 12 o) → ExactRefuses P loopNumbers
+unfolding loopNumbers period
+loop-refuses P two seven eight twelve =
+    let n = ue7-refuses P two seven eight 16 in
+    let d = guarded-refuses P notZero 12 atOwn twelve n in
+    thenRest-refuses P n λ _. thenRest-refuses P d λ _. thenRest-refuses P d λ _. rest-refuses P Byte
 
 payload-refuses : (b : Bool) → E (payload b)
 unfolding payload select
-payload-refuses true = verbatim-refuses Numbered loop-refuses
+payload-refuses true = verbatim-refuses Numbered (loop-refuses Numbered (λ _. omega arith) (λ _. omega arith) (λ _. omega arith) (λ _. omega arith))
 payload-refuses false = rest-refuses Numbered Byte
 
 extension-refuses : (seen : Bool) → C (extension seen)

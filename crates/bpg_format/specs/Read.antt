@@ -2,7 +2,7 @@
 -- It is equal to what the codec of `FileCodec` decodes (proofs/Reading).
 use mathlib.Core.Bool.{Bool, true, false, not, _&&_, _||_}
 use mathlib.Core.List.{List, [], _∷_}
-use Prim.Native.Nat.{ℕ, zero, suc, _+_, _*_}
+use Prim.Native.Nat.{ℕ, zero, suc, _+_, _*_, _≤_}
 use lib.Dec.{leb, ltb, eqb}
 use lib.ListN.{length, take, drop, replicate}
 use Rattle.bpg_codec.specs.Select.{select}
@@ -149,3 +149,7 @@ readContent l =
       colorHeader = color .0;
       hevcData = color .2;
     })
+
+-- the refusal numbers of reading: no other is given
+abbrev pub ReadingStatus : ℕ → Type 0
+ReadingStatus s = (1 ≤ s) × (s ≤ 17)

@@ -10,10 +10,11 @@ use Rattle.bpg_format.specs.declared.record.Record.{Record}
 use Rattle.bpg_format.specs.Zero.{range, refusedReading, refusedWritten}
 use Rattle.bpg_format.specs.Content.{Content}
 use Rattle.bpg_format.specs.Syntax.{fileOf}
-use Rattle.bpg_format.specs.Rules.{Rules, Accepted, ReadingStatus}
+use Rattle.bpg_format.specs.Rules.{Rules, Accepted}
+use Rattle.bpg_format.specs.Read.{ReadingStatus}
 use Rattle.bpg_format.specs.Records.{recordOf, contentOf, readFile}
 use Rattle.bpg_format.specs.Parts.{payloadOf, dataOf, rangesOf, InOrder, Inside}
-use Rattle.bpg_format.specs.Write.{writeFile, writeBuffer, Typed, Writable}
+use Rattle.bpg_format.specs.Write.{writeFile, writeBuffer, WritingStatus, Typed, Writable}
 use Rattle.bpg_format.specs.Pictures.{Picture, canonicalBytes, SamePicture, canonicalFile, canonicalBuffer}
 
 -- 1. "Every call takes every input. A bad file or record is refused with the number and place in document 01, any record returned is then
@@ -27,7 +28,7 @@ pub record Refusals : Type 0 where
   pub reading-number : (f : List ℕ) → readFile f .status ≢ 0 → ReadingStatus (readFile f .status)
   -- "lent capacity keeps its old contents"
   pub writing : (r : Record) (source out : List ℕ) → writeFile r source out .status ≢ 0
-      → (writeFile r source out ≡ refusedWritten (writeFile r source out .status) 0) × (writeBuffer r source out ≡ out)
+      → (writeFile r source out ≡ refusedWritten (writeFile r source out .status) 0) × WritingStatus (writeFile r source out .status) × (writeBuffer r source out ≡ out)
   pub canonicalizing : (f out : List ℕ) → canonicalFile f out .status ≢ 0
       → (canonicalFile f out ≡ refusedWritten (canonicalFile f out .status) (canonicalFile f out .offset)) × (canonicalBuffer f out ≡ out)
   -- "an index past the last entry gives an empty part"; so does a refused file

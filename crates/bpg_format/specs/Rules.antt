@@ -149,7 +149,3 @@ pub record Rules (c : Content) : Type 0 where
 -- a file is accepted when it is the syntax's file of a content that keeps the rules
 abbrev pub Accepted : List ℕ → Type 0
 Accepted f = (c : Content) × Rules c × (f ≡ fileOf c)
-
--- the refusal numbers of reading
-abbrev pub ReadingStatus : ℕ → Type 0
-ReadingStatus s = (1 ≤ s) × (s ≤ 17)

@@ -2,6 +2,7 @@
 use mathlib.Core.Bool.{Bool, true, false, not, _&&_, _||_}
 use mathlib.Core.List.{List, [], _∷_, _++_}
 use mathlib.Core.Path.{_≡_}
+use mathlib.Core.Logic.{_≢_}
 use Prim.Native.Nat.{ℕ, _+_, _-_, _^_, _≤_, _<_}
 use lib.Dec.{leb, ltb, eqb}
 use lib.ListN.{length, drop, getD}
@@ -165,6 +166,13 @@ writeFile r source out = writtenAnswer (writeOutcome (length out) r source)
 
 unfoldable pub writeBuffer : Record → (source out : List ℕ) → List ℕ
 writeBuffer r source out = writtenBuffer (writeOutcome (length out) r source) out
+
+-- the refusal numbers of writing: no other is given
+pub record WritingStatus (s : ℕ) : Type 0 where
+  pub least : 1 ≤ s
+  pub most : s ≤ 20
+  pub not-magic : s ≢ 3
+  pub not-length : s ≢ 10
 
 -- ---- the records that are written
 

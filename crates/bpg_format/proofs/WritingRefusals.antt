@@ -1,0 +1,84 @@
+-- Writing refuses at offset 0, with no other number than document 01's for writing. Assumes nothing.
+use mathlib.Core.Path.{_≡_, refl, sym, _∙_}
+use mathlib.Core.Bool.{Bool, true, false, not, _&&_, _||_}
+use mathlib.Core.List.{List, [], _∷_}
+use Prim.Native.Nat.{ℕ, _≤_}
+use native.Mathlib.Omega.{arith}
+use lib.Dec.{leb}
+use lib.ListN.{length}
+use Rattle.bpg_codec.specs.Select.{select}
+use Rattle.bpg_codec.specs.Outcome.{Outcome, ok, error, _>>=_, guard}
+use Rattle.bpg_codec.proofs.Refusals.{Refuses, refuses-ok, refuses-error, refuses-bind, refuses-guard, refuses-select}
+use Rattle.bpg_format.specs.declared.record.Header.{Header}
+use Rattle.bpg_format.specs.declared.record.Record.{Record}
+use Rattle.bpg_format.specs.Limits.{maxEntries, maxFile}
+use Rattle.bpg_format.specs.Content.{Extension, Loop, Content, hasAlpha, bitDepth}
+use Rattle.bpg_format.specs.Syntax.{fileOf}
+use Rattle.bpg_format.specs.Rules.{isLoop, hasLoop}
+use Rattle.bpg_format.specs.FileCodec.{colorSpaceAllowed, notZero, loopNumbers, loopFrom, noForbiddenBit, hevcAllowed}
+use Rattle.bpg_format.specs.Records.{contentOf}
+use Rattle.bpg_format.specs.Write.{rangesInSource, unusedZero, consistent, sameLoop, atZero, checkLoop, checkEntries, fieldsCoded, checkHeader, checkContent, sizedFile, writeOutcome, WritingStatus}
+use Rattle.bpg_format.proofs.ReadingRefusals.{loop-refuses}
+
+abbrev AtZero : (status offset : ℕ) → Type 0
+AtZero s o = WritingStatus s × (o ≡ 0)
+
+abbrev R : {A : Type 0} → Outcome A → Type 0
+R m = Refuses AtZero m
+
+rule : {B : Type 0} (t : Bool) (s : ℕ) (k : Outcome B) → AtZero s 0 → R k → R (guard t s 0 >>= λ _. k)
+rule t s k h g = refuses-guard AtZero t s 0 k h g
+
+last-rule : (t : Bool) (s : ℕ) → AtZero s 0 → R (guard t s 0)
+last-rule true s h = refuses-ok AtZero tt
+last-rule false s h = refuses-error AtZero s 0 h
+
+at-zero-refuses : {A : Type 0} (m : Outcome A) → Refuses (λ s o. WritingStatus s) m → R (atZero m)
+at-zero-refuses (ok a) h = refuses-ok AtZero a
+at-zero-refuses (error s o) h = refuses-error AtZero s 0 (h s o refl, refl)
+
+loop-check : (p : Loop) (l : List ℕ) → R (checkLoop p l)
+unfolding checkLoop
+loop-check p l =
+    let own = loop-refuses (λ s o. WritingStatus s) (λ _. omega arith) (λ _. omega arith) (λ _. omega arith) (λ _. omega arith) in
+    refuses-bind AtZero (atZero (loopNumbers .decode 0 0 l)) _ (at-zero-refuses (loopNumbers .decode 0 0 l) (own .refuses 0 0 l)) λ x.
+    last-rule (sameLoop p (loopFrom (ok x))) 19 (omega arith)
+
+entries-check : (p : Loop) (seen : Bool) (es : List Extension) → R (checkEntries p seen es)
+unfolding checkEntries
+entries-check p seen [] = refuses-ok AtZero tt
+entries-check p seen (e ∷ es) =
+    rule (not (seen && isLoop e)) 13 _ (omega arith)
+    (refuses-bind AtZero (select (isLoop e) (checkLoop p (e .payload)) (ok tt)) _
+    (refuses-select AtZero (isLoop e) _ _ (loop-check p (e .payload)) (refuses-ok AtZero tt)) λ _.
+    entries-check p (seen || isLoop e) es)
+
+header-check : (depth : ℕ) (h : Header) → R (checkHeader depth h)
+unfolding checkHeader
+header-check depth h =
+    rule (fieldsCoded h) 15 _ (omega arith) (rule (noForbiddenBit h) 17 _ (omega arith) (last-rule (hevcAllowed depth h) 16 (omega arith)))
+
+content-check : (c : Content) → R (checkContent c)
+unfolding checkContent
+content-check c =
+    rule (leb (c .flags .pixelFormat) 5) 4 _ (omega arith)
+    (rule (leb (c .flags .bitDepthMinus8) 6) 5 _ (omega arith)
+    (rule (colorSpaceAllowed (c .flags)) 6 _ (omega arith)
+    (rule (notZero (c .width)) 9 _ (omega arith)
+    (rule (notZero (c .height)) 9 _ (omega arith)
+    (refuses-bind AtZero (checkEntries (c .loop) false (c .extensions)) _ (entries-check (c .loop) false (c .extensions)) λ _.
+    rule (not (c .flags .animation) || hasLoop (c .extensions)) 14 _ (omega arith)
+    (refuses-bind AtZero (select (hasAlpha (c .flags)) (checkHeader (bitDepth (c .flags)) (c .alphaHeader)) (ok tt)) _
+    (refuses-select AtZero (hasAlpha (c .flags)) _ _ (header-check (bitDepth (c .flags)) (c .alphaHeader)) (refuses-ok AtZero tt)) λ _.
+    header-check (bitDepth (c .flags)) (c .colorHeader)))))))
+
+pub write-refuses : (capacity : ℕ) (r : Record) (source : List ℕ) → R (writeOutcome capacity r source)
+unfolding writeOutcome sizedFile
+write-refuses capacity r source =
+    let c = contentOf r source in
+    rule (leb (r .«entry_count») maxEntries) 11 _ (omega arith)
+    (rule (rangesInSource source r) 18 _ (omega arith)
+    (rule (unusedZero r && consistent c) 19 _ (omega arith)
+    (refuses-bind AtZero (checkContent c) _ (content-check c) λ _.
+    rule (leb (length (fileOf c)) maxFile) 1 _ (omega arith)
+    (rule (leb (length (fileOf c)) capacity) 20 _ (omega arith) (refuses-ok AtZero (fileOf c))))))
