@@ -15,3 +15,4 @@ pub mod Writing
 pub mod Canonical
 pub mod Requirements
 pub mod WritingRefusals
+pub mod Examples

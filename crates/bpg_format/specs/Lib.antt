@@ -10,4 +10,5 @@ pub mod Records
 pub mod Parts
 pub mod Write
 pub mod Pictures
+pub mod Examples
 pub mod Requirements
