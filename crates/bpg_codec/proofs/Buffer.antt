@@ -1,6 +1,5 @@
 -- The laws of writing into a buffer. Assumes nothing.
-use mathlib.Core.Path.{_≡_, refl, sym, ap, _∙_}
-use mathlib.Core.Bool.{true, false}
+use mathlib.Core.Path.{_≡_, sym, ap, _∙_}
 use mathlib.Core.List.{List, [], _∷_, _++_, append-assoc}
 use Prim.Native.Nat.{ℕ, _+_, _*_, _≤_, _<_}
 use native.Mathlib.Numerals.{add-one}
@@ -9,7 +8,7 @@ use lib.ListN.{length, take, drop, set, length-append, length-take, length-drop}
 use lib.Seq.{set-split, length-take-le, take-append-seam, drop-append-add, drop-drop}
 use borrow.Author.Tests.{le-leb, lt-leb}
 use Rattle.bpg_codec.specs.Bits.{unpack}
-use Rattle.bpg_codec.specs.Buffer.{splice, fits, written, writtenEnd}
+use Rattle.bpg_codec.specs.Buffer.{splice, written, writtenEnd}
 use Rattle.bpg_codec.proofs.Select.{select-true, select-false}
 use Rattle.bpg_codec.proofs.Bits.{unpack-append, unpack-take, unpack-drop, length-unpack}
 

@@ -7,9 +7,9 @@ use native.Mathlib.Omega.{arith}
 use lib.Dec.{T, ltb, lt→ltb, ltb→lt}
 use lib.ListN.{length, length-append, length-replicate}
 use Rattle.bpg_codec.specs.Outcome.{ok}
-use Rattle.bpg_codec.specs.Codec.{Codec, Exact}
+use Rattle.bpg_codec.specs.Codec.{Codec}
 use Rattle.bpg_codec.specs.Lawful.{All, Byte, Lawful, ExactLawful}
-use Rattle.bpg_codec.specs.Bits.{Bit, zeros, allZero, unpack, pack, bytesFor, padded}
+use Rattle.bpg_codec.specs.Bits.{Bit, zeros, allZero, unpack, bytesFor, padded}
 use Rattle.bpg_codec.specs.Regions.{packed}
 use Rattle.bpg_codec.proofs.Select.{and-left, and-right, and-both}
 use Rattle.bpg_codec.proofs.Outcome.{ok-injective, unbind, unguard, guard-true}

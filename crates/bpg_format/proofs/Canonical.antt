@@ -1,14 +1,12 @@
 -- The canonical form pins the picture down: equal bytes exactly for equal pictures, idempotent, and minimal. A content is determined by its
 -- picture and its choices, and changing choices keeps the picture. Assumes nothing.
 use mathlib.Core.Path.{_≡_, refl, sym, ap, ap₂, _∙_, subst}
-use mathlib.Core.Bool.{Bool, true, false}
-use mathlib.Core.List.{List, [], _∷_, _++_, map}
+use mathlib.Core.Bool.{true, false}
+use mathlib.Core.List.{List, [], _∷_, map}
 use mathlib.Core.Logic.{_↔_}
 use Prim.Native.Nat.{ℕ, _≤_}
-use native.Mathlib.Omega.{arith}
 use lib.ListN.{length}
 use Rattle.bpg_codec.specs.Select.{select}
-use Rattle.bpg_codec.specs.Outcome.{Outcome, ok, error}
 use Rattle.bpg_codec.specs.Lawful.{All}
 use Rattle.bpg_codec.proofs.Select.{select-true, select-false}
 use Rattle.bpg_format.specs.Content.{Extension, Loop, Content}

@@ -1,27 +1,25 @@
 -- The canonical form: it keeps the rules and the picture, and is not longer. Assumes nothing.
-use mathlib.Core.Path.{_≡_, refl, sym, ap, ap₂, _∙_, subst}
+use mathlib.Core.Path.{_≡_, refl, sym, ap, ap₂, _∙_}
 use mathlib.Core.Bool.{Bool, true, false, not, _||_}
-use mathlib.Core.List.{List, [], _∷_, _++_, map, cons≢nil}
-use Prim.Native.Nat.{ℕ, _+_, _^_, _≤_, _<_}
+use mathlib.Core.List.{List, [], _∷_, map, cons≢nil}
+use Prim.Native.Nat.{ℕ, _+_, _≤_}
 use native.Mathlib.Omega.{arith}
-use lib.Dec.{T, eqb}
+use lib.Dec.{T}
 use lib.ListN.{length, replicate, length-append, length-map}
 use Rattle.bpg_codec.specs.Select.{select}
 use Rattle.bpg_codec.specs.Lawful.{All, Byte}
-use Rattle.bpg_codec.specs.Bits.{bits, zeros, allZero, padded}
-use Rattle.bpg_codec.proofs.Select.{select-true, select-false, is-true, is-false}
+use Rattle.bpg_codec.specs.Bits.{zeros, allZero, padded}
+use Rattle.bpg_codec.proofs.Select.{select-true, select-false}
 use Rattle.bpg_codec.proofs.Tokens.{all-append}
 use Rattle.bpg_codec.proofs.Bits.{length-bits}
 use Rattle.bpg_codec.proofs.Packed.{length-padded, zeros-allZero}
 use Rattle.bpg_numbers.specs.Ue7.{ue7Bytes}
-use Rattle.bpg_numbers.specs.BitNumbers.{expGolombBits}
 use Rattle.bpg_numbers.proofs.Ue7Laws.{size-grows, bytes-ue7}
 use Rattle.bpg_format.specs.declared.record.Header.{Header}
-use Rattle.bpg_format.specs.Zero.{zeroHeader}
-use Rattle.bpg_format.specs.Content.{Flags, isEmpty, Extension, Loop, Content, hasAlpha, bitDepth}
-use Rattle.bpg_format.specs.Syntax.{extensionBytes, blockBytes, extensionPart, pcmBits, spsExtensionBits, headerBits, headerBytes, bodyBytes, dataLength, fileOf}
-use Rattle.bpg_format.specs.Rules.{FieldRules, ForbiddenBits, HevcRules, HeaderRules, LoopPayload, isLoop, ExtensionRules, hasLoop, OneLoop, Rules}
-use Rattle.bpg_format.specs.Pictures.{PictureHeader, Picture, Choices, pictureHeader, pictureEntry, pictureOf, headerWith, needsRange, loopBytes, entryWith, withChoices, canonicalChoices, canonicalContent}
+use Rattle.bpg_format.specs.Content.{isEmpty, Extension, Loop, Content, hasAlpha, bitDepth}
+use Rattle.bpg_format.specs.Syntax.{blockBytes, extensionPart, spsExtensionBits, headerBits, headerBytes, bodyBytes, dataLength, fileOf}
+use Rattle.bpg_format.specs.Rules.{FieldRules, HeaderRules, LoopPayload, isLoop, ExtensionRules, hasLoop, OneLoop, Rules}
+use Rattle.bpg_format.specs.Pictures.{pictureHeader, pictureEntry, pictureOf, headerWith, needsRange, loopBytes, entryWith, withChoices, canonicalContent}
 use Rattle.bpg_format.proofs.RuleLaws.{bool-apart, by-tag, file-size, body-size}
 
 -- ---- headers

@@ -1,19 +1,16 @@
 -- Reading as a chain of steps is what the codec decodes. Assumes nothing.
-use mathlib.Core.Path.{_≡_, refl, sym, ap, _∙_}
-use mathlib.Core.Bool.{Bool, true, false, not, _&&_, _||_}
+use mathlib.Core.Path.{_≡_, refl}
+use mathlib.Core.Bool.{Bool, true, false}
 use mathlib.Core.List.{List, [], _∷_}
-use Prim.Native.Nat.{ℕ, zero, suc, _+_, _*_}
-use lib.Dec.{leb, ltb, eqb}
-use lib.ListN.{length, take, drop}
+use Prim.Native.Nat.{ℕ, zero, suc}
 use Rattle.bpg_codec.specs.Select.{select}
-use Rattle.bpg_codec.specs.Outcome.{Outcome, ok, error, _>>=_, guard}
+use Rattle.bpg_codec.specs.Outcome.{ok}
 use Rattle.bpg_codec.specs.Parts.{sequence, mapped, guarded, sized, item, absent, fixed}
 use Rattle.bpg_codec.specs.Codec.{Codec}
 use Rattle.bpg_codec.specs.Regions.{thenRest, itemThenRest, mappedExact, derived, guardedRegion, rest, verbatim, decodeEach, repeated, packed}
 use Rattle.bpg_codec.proofs.Outcome.{bind-assoc}
-use Rattle.bpg_format.specs.declared.record.Header.{Header}
 use Rattle.bpg_format.specs.Zero.{zeroHeader}
-use Rattle.bpg_format.specs.Content.{Flags, Extension, Content, hasAlpha, bitDepth}
+use Rattle.bpg_format.specs.Content.{Flags, hasAlpha, bitDepth}
 use Rattle.bpg_format.specs.FileCodec.{flags, dimension, period, loopNumbers, payload, extension, seenAfter, extensions, block, optional, sizeFields, pcmFields, spsFields, fieldSequence, headerFields, header, alphaHeader, body, parts, withLoop, file}
 use Rattle.bpg_format.specs.Read.{readLoop, readEntries, readBlock, readSizes, readPcm, readSps, readFields, readHeader, readAlphaHeader, readContent}
 

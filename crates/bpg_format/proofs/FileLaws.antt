@@ -1,25 +1,22 @@
 -- The laws of the format's codecs, put together as the codecs are. Assumes nothing.
-use mathlib.Core.Path.{_≡_, refl, sym, ap, _∙_, subst}
+use mathlib.Core.Path.{_≡_, refl, sym, ap}
 use mathlib.Core.Bool.{Bool, true, false, not, _&&_, _||_}
-use mathlib.Core.List.{List, [], _∷_, _++_}
-use Prim.Native.Nat.{ℕ, zero, suc, _+_, _^_, _<_}
+use mathlib.Core.List.{List, []}
+use Prim.Native.Nat.{ℕ, zero, suc, _<_}
 use native.Mathlib.Omega.{arith}
 use lib.Dec.{T, leb, eqb, eqb→eq}
 use lib.ListN.{length, length-append, replicate}
-use borrow.Author.Tests.{ne-eqb, eq-eqb}
+use borrow.Author.Tests.{ne-eqb}
 use Rattle.bpg_codec.specs.Select.{select}
-use Rattle.bpg_codec.specs.Codec.{Codec, Exact, atItem, atOwn}
+use Rattle.bpg_codec.specs.Codec.{Codec, atItem, atOwn}
 use Rattle.bpg_codec.specs.Lawful.{Byte, Lawful, ExactLawful}
-use Rattle.bpg_codec.specs.Bits.{Bit, bit}
-use Rattle.bpg_codec.specs.Parts.{sequence, mapped, guarded, sized, item, absent, fixed}
-use Rattle.bpg_codec.specs.Regions.{thenRest, itemThenRest, guardedRegion, rest, derived, mappedExact, packed}
-use Rattle.bpg_codec.proofs.Select.{select-true, select-false}
+use Rattle.bpg_codec.specs.Bits.{Bit}
+use Rattle.bpg_codec.specs.Parts.{sequence, mapped, guarded, sized, item}
+use Rattle.bpg_codec.specs.Regions.{thenRest, itemThenRest, guardedRegion, derived, packed}
 use Rattle.bpg_codec.proofs.Bits.{bit-of-bit, bit-of-number}
 use Rattle.bpg_codec.proofs.Parts.{sequence-lawful, mapped-lawful, guarded-lawful, sized-lawful, item-lawful, absent-lawful, select-lawful, fixed-lawful}
 use Rattle.bpg_codec.proofs.Regions.{thenRest-lawful, itemThenRest-lawful, mappedExact-lawful, derived-lawful, guardedRegion-lawful, rest-lawful, verbatim-lawful, repeated-lawful}
 use Rattle.bpg_codec.proofs.Packed.{packed-lawful}
-use Rattle.bpg_numbers.specs.Ue7.{ue7, ue7Bytes}
-use Rattle.bpg_numbers.specs.BitNumbers.{unsigned, expGolomb}
 use Rattle.bpg_numbers.proofs.Ue7Laws.{ue7-lawful, size-positive}
 use Rattle.bpg_numbers.proofs.BitNumberLaws.{unsigned-lawful, expGolomb-lawful}
 use Rattle.bpg_format.specs.Limits.{maxEntries, maxFile}
@@ -27,7 +24,7 @@ use Rattle.bpg_format.specs.declared.record.Header.{Header}
 use Rattle.bpg_format.specs.Zero.{zeroHeader}
 use Rattle.bpg_format.specs.Content.{Flags, Extension, Loop, Content, hasAlpha, bitDepth}
 use Rattle.bpg_format.specs.Rules.{hasLoop}
-use Rattle.bpg_format.specs.FileCodec.{flags, notZero, dimension, period, loopNumbers, payload, extension, seenAfter, extensions, block, loopOf, oneBit, optional, sizeFields, pcmFields, spsFields, noPcm, noSps, FieldTuple, fieldSequence, headerFields, noForbiddenBit, hevcAllowed, header, alphaHeader, body, countsBody, Parts, parts, withLoop, contentFrom, lengthOf, partsOf, file}
+use Rattle.bpg_format.specs.FileCodec.{flags, notZero, dimension, period, loopNumbers, payload, extension, seenAfter, extensions, block, loopOf, oneBit, optional, sizeFields, pcmFields, spsFields, noPcm, noSps, fieldSequence, headerFields, noForbiddenBit, hevcAllowed, header, alphaHeader, body, countsBody, Parts, parts, withLoop, contentFrom, partsOf, file}
 use Rattle.bpg_format.proofs.FlagLaws.{flags-lawful}
 
 -- ---- the extension block

@@ -1,19 +1,18 @@
 -- The laws of the first six bytes. Assumes nothing.
 use mathlib.Core.Path.{_≡_, refl, sym, ap, ap₂, _∙_, subst}
-use mathlib.Core.Bool.{Bool, true, false, not, _&&_, _||_}
+use mathlib.Core.Bool.{Bool, true}
 use mathlib.Core.List.{List, [], _∷_, _++_}
 use Prim.Native.Nat.{ℕ, _+_, _-_, _*_, _/_, _%_, _≤_, _<_}
 use native.Mathlib.Omega.{arith}
-use lib.Dec.{T, leb, eqb, leb→le, le→leb, eqb→eq}
+use lib.Dec.{leb, eqb, leb→le}
 use lib.ListN.{length, take, drop, getD, take-append-drop}
-use Rattle.bpg_codec.specs.Outcome.{Outcome, ok, error, _>>=_, guard}
-use Rattle.bpg_codec.specs.Codec.{Codec}
+use Rattle.bpg_codec.specs.Outcome.{Outcome, ok}
 use Rattle.bpg_codec.specs.Lawful.{All, Byte, Lawful}
 use Rattle.bpg_codec.specs.Bits.{bit}
 use Rattle.bpg_codec.specs.Parts.{same}
 use borrow.Author.Tests.{le-leb}
 use Rattle.bpg_codec.proofs.Select.{is-true, and-left}
-use Rattle.bpg_codec.proofs.Outcome.{ok-injective, unbind, unguard, guard-true}
+use Rattle.bpg_codec.proofs.Outcome.{ok-injective, unbind, unguard}
 use Rattle.bpg_codec.proofs.Lists.{drop-next}
 use Rattle.bpg_codec.proofs.Tokens.{byte-at}
 use Rattle.bpg_codec.proofs.Bits.{bit-small, bit-of-bit, bit-of-number}

@@ -1,26 +1,24 @@
 -- A header is valid for its codec exactly when it keeps the rules by name and its length has a code. Assumes nothing.
-use mathlib.Core.Path.{_≡_, refl, sym, ap, _∙_, subst}
-use mathlib.Core.Bool.{Bool, true, false, not, _&&_, _||_}
-use mathlib.Core.List.{List, [], _∷_}
-use mathlib.Core.Logic.{_≢_}
+use mathlib.Core.Path.{_≡_, refl, ap}
+use mathlib.Core.Bool.{Bool, true, false, not, _||_}
+use mathlib.Core.List.{List}
 use Prim.Native.Nat.{ℕ, _+_, _-_, _^_, _≤_, _<_}
 use native.Mathlib.Omega.{arith}
-use lib.Dec.{T, leb, ltb, eqb, leb→le, le→leb, ltb→lt, lt→ltb}
-use lib.ListN.{length, getD, replicate, length-replicate}
+use lib.Dec.{T, leb, ltb, eqb, leb→le, ltb→lt}
+use lib.ListN.{length, replicate}
 use borrow.Author.Tests.{le-leb, lt-ltb, eq-eqb}
 use mir.Facts.{eqb-yes}
 use Rattle.bpg_codec.specs.Select.{select}
 use Rattle.bpg_codec.specs.Codec.{Codec, atItem}
-use Rattle.bpg_codec.specs.Bits.{Bit, bit, padded}
+use Rattle.bpg_codec.specs.Bits.{Bit, padded}
 use Rattle.bpg_codec.specs.Parts.{sequence, mapped, guarded, sized, item, absent, fixed}
 use Rattle.bpg_codec.specs.Regions.{packed}
 use Rattle.bpg_codec.proofs.Select.{and-left, and-right, is-false}
 use Rattle.bpg_codec.proofs.Tokens.{all-bits}
 use Rattle.bpg_codec.proofs.Bits.{bit-small}
-use Rattle.bpg_numbers.specs.BitNumbers.{unsigned, expGolomb}
 use Rattle.bpg_format.specs.declared.record.Header.{Header}
 use Rattle.bpg_format.specs.Syntax.{headerBits}
-use Rattle.bpg_format.specs.Rules.{Coded, NoPcm, NoSpsExtension, FieldRules, ForbiddenBits, PcmRules, HevcRules, HeaderRules, minCbLog2SizeY, ctbLog2SizeY, minTbLog2SizeY, maxTbLog2SizeY, log2MinIpcmCbSizeY}
+use Rattle.bpg_format.specs.Rules.{Coded, NoPcm, FieldRules, ForbiddenBits, PcmRules, HevcRules, HeaderRules, minCbLog2SizeY, ctbLog2SizeY, minTbLog2SizeY, maxTbLog2SizeY, log2MinIpcmCbSizeY}
 use Rattle.bpg_format.specs.FileCodec.{oneBit, optional, sizeFields, PcmFields, pcmFields, spsFields, noPcm, noSps, fieldSequence, pcmOf, headerFields, rangeFlag, noForbiddenBit, pcmAllowed, hevcAllowed, header}
 use Rattle.bpg_format.proofs.SyntaxLaws.{fields-encode}
 

@@ -1,20 +1,18 @@
 -- Payloads and data of a file lie in it in order, and no two share a byte. Assumes nothing.
-use mathlib.Core.Path.{_≡_, refl, sym, ap, _∙_, subst}
-use mathlib.Core.Bool.{Bool, true, false}
+use mathlib.Core.Path.{_≡_, sym, ap, _∙_, subst}
 use mathlib.Core.List.{List, [], _∷_, _++_, map}
 use Prim.Native.Nat.{ℕ, zero, suc, _+_, _≤_, _<_}
 use native.Mathlib.Omega.{arith}
 use lib.ListN.{length, getD, length-append}
 use Rattle.bpg_numbers.specs.Ue7.{ue7Bytes}
-use Rattle.bpg_codec.specs.Select.{select}
 use Rattle.bpg_codec.proofs.Lists.{either-way}
 use Rattle.bpg_format.specs.declared.record.Range.{Range}
 use Rattle.bpg_format.specs.declared.record.Entry.{Entry}
 use Rattle.bpg_format.specs.Zero.{range}
-use Rattle.bpg_format.specs.Content.{Extension, Content, hasAlpha}
-use Rattle.bpg_format.specs.Syntax.{extensionBytes, blockBytes, headerBytes, fileOf}
+use Rattle.bpg_format.specs.Content.{Extension, Content}
+use Rattle.bpg_format.specs.Syntax.{extensionBytes, blockBytes, fileOf}
 use Rattle.bpg_format.specs.Rules.{Rules}
-use Rattle.bpg_format.specs.Records.{entriesAt, blockStart, dataStart, recordOf, usedEntries}
+use Rattle.bpg_format.specs.Records.{entriesAt, blockStart, dataStart, recordOf}
 use Rattle.bpg_format.specs.Parts.{rangesOf, rangeEnd, InOrder, Inside}
 use Rattle.bpg_format.proofs.RecordLaws.{used-entries, beforeData, data-file, data-length}
 

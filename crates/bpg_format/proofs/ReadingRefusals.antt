@@ -1,5 +1,5 @@
 -- Reading refuses with no other number than document 01's for reading, 1 to 17. Assumes nothing.
-use mathlib.Core.Path.{_≡_, sym, _∙_}
+use mathlib.Core.Path.{_≡_, _∙_}
 use mathlib.Core.Bool.{Bool, true, false, not, _&&_, _||_}
 use mathlib.Core.List.{List, []}
 use Prim.Native.Nat.{ℕ, _+_, _/_, _%_}
@@ -7,10 +7,10 @@ use native.Mathlib.Omega.{arith}
 use lib.Dec.{leb, eqb}
 use lib.ListN.{length, take, drop, getD, replicate}
 use Rattle.bpg_codec.specs.Select.{select}
-use Rattle.bpg_codec.specs.Outcome.{Outcome, ok, error, _>>=_, guard}
+use Rattle.bpg_codec.specs.Outcome.{error}
 use Rattle.bpg_codec.specs.Codec.{Codec, Exact, atItem, atOwn}
 use Rattle.bpg_codec.specs.Lawful.{Byte}
-use Rattle.bpg_codec.specs.Bits.{Bit, bit}
+use Rattle.bpg_codec.specs.Bits.{Bit}
 use Rattle.bpg_codec.specs.Parts.{sequence, same}
 use Rattle.bpg_codec.proofs.Refusals.{Refuses, refuses-ok, refuses-bind, refuses-guard, CodecRefuses, ExactRefuses, sequence-refuses, mapped-refuses, guarded-refuses, sized-refuses, item-refuses, select-refuses, absent-refuses, fixed-refuses, thenRest-refuses, itemThenRest-refuses, mappedExact-refuses, derived-refuses, guardedRegion-refuses, rest-refuses, verbatim-refuses, repeated-refuses, packed-refuses}
 use Rattle.bpg_numbers.specs.Ue7.{ue7}
@@ -18,7 +18,7 @@ use Rattle.bpg_numbers.specs.BitNumbers.{unsigned, expGolomb}
 use Rattle.bpg_numbers.proofs.Refusals.{ue7-refuses, unsigned-refuses, expGolomb-refuses}
 use Rattle.bpg_format.specs.Limits.{maxEntries, maxFile}
 use Rattle.bpg_format.specs.Zero.{zeroHeader}
-use Rattle.bpg_format.specs.Content.{Flags, Extension, Content, hasAlpha, bitDepth}
+use Rattle.bpg_format.specs.Content.{Flags, hasAlpha, bitDepth}
 use Rattle.bpg_format.specs.Syntax.{magic}
 use Rattle.bpg_format.specs.Rules.{hasLoop}
 use Rattle.bpg_format.specs.FileCodec.{flagsOf, colorSpaceAllowed, readFlags, flags, notZero, dimension, period, loopNumbers, payload, extension, seenAfter, extensions, block, loopOf, oneBit, optional, sizeFields, pcmFields, spsFields, noPcm, noSps, fieldSequence, headerFrom, fieldsOf, headerFields, noForbiddenBit, hevcAllowed, header, alphaHeader, body, countsBody, Parts, parts, withLoop, contentFrom, partsOf, file}

@@ -1,23 +1,18 @@
 -- A record over its file gives its content back, and its ranges lie in the file in order. Assumes nothing.
-use mathlib.Core.Path.{_≡_, refl, sym, ap, ap₂, _∙_, subst}
+use mathlib.Core.Path.{_≡_, refl, sym, ap, ap₂, _∙_}
 use mathlib.Core.Bool.{Bool, true, false}
 use mathlib.Core.List.{List, [], _∷_, _++_, append-assoc, map}
-use Prim.Native.Nat.{ℕ, zero, suc, _+_, _-_, _≤_, _<_}
-use native.Mathlib.Nat.{add-assoc}
+use Prim.Native.Nat.{ℕ, suc, _+_, _-_}
 use native.Mathlib.Omega.{arith}
-use lib.ListN.{length, take, drop, getD, replicate, length-append}
-use lib.Seq.{take-append-seam, drop-append-seam, take-at, drop-at, take-length}
+use lib.ListN.{length, take, drop, length-append}
+use lib.Seq.{take-append-seam, drop-append-seam, take-at, take-length}
 use Rattle.bpg_codec.specs.Select.{select}
 use Rattle.bpg_codec.proofs.Select.{select-true, select-false}
 use Rattle.bpg_numbers.specs.Ue7.{ue7Bytes}
-use Rattle.bpg_format.specs.declared.record.Range.{Range}
-use Rattle.bpg_format.specs.declared.record.Entry.{Entry}
-use Rattle.bpg_format.specs.declared.record.Record.{Record}
-use Rattle.bpg_format.specs.Zero.{range, zeroEntry}
-use Rattle.bpg_format.specs.Content.{Flags, Extension, Content, hasAlpha}
+use Rattle.bpg_format.specs.Content.{Extension, Content, hasAlpha}
 use Rattle.bpg_format.specs.Syntax.{magic, byte4, byte5, extensionBytes, blockBytes, extensionPart, headerBytes, bodyBytes, dataLength, fileOf}
 use Rattle.bpg_format.specs.Rules.{Rules}
-use Rattle.bpg_format.specs.Records.{entriesAt, padEntries, headEnd, blockStart, dataStart, recordOf, bytesIn, extensionOf, usedEntries, contentOf}
+use Rattle.bpg_format.specs.Records.{entriesAt, padEntries, headEnd, blockStart, dataStart, recordOf, extensionOf, contentOf}
 
 -- ---- the file in three parts: what stands before the entries, the entries, and what stands after
 

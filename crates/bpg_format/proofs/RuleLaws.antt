@@ -2,7 +2,6 @@
 use mathlib.Core.Path.{_≡_, refl, sym, ap, _∙_, subst}
 use mathlib.Core.Bool.{Bool, true, false, not, _&&_, _||_, or-true}
 use mathlib.Core.List.{List, [], _∷_, _++_}
-use mathlib.Core.Logic.{_≢_}
 use Prim.Native.Nat.{ℕ, _+_, _-_, _^_, _≤_, _<_}
 use native.Mathlib.Omega.{arith}
 use lib.Dec.{T, leb, eqb, leb→le, le→leb, eqb-refl}
@@ -10,23 +9,22 @@ use lib.ListN.{length, length-append}
 use mir.Facts.{eqb-yes, eqb-no, yes-eqb, no-eqb}
 use borrow.Author.Tests.{le-leb, eq-eqb, eqb-true}
 use Rattle.bpg_codec.specs.Select.{select}
-use Rattle.bpg_codec.specs.Outcome.{Outcome, ok, error}
-use Rattle.bpg_codec.specs.Codec.{Codec, Exact}
+use Rattle.bpg_codec.specs.Codec.{Codec}
 use Rattle.bpg_codec.specs.Lawful.{All, Byte}
 use Rattle.bpg_codec.specs.Bits.{padded}
 use Rattle.bpg_codec.specs.Parts.{sequence, mapped, guarded, sized, absent}
 use Rattle.bpg_codec.specs.Regions.{thenRest, itemThenRest, mappedExact, derived, guardedRegion, rest, verbatim, ValidEach, repeated}
 use Rattle.bpg_codec.proofs.Select.{select-true, select-false, and-left, and-right, is-true, is-false}
-use Rattle.bpg_numbers.specs.Ue7.{ue7, ue7Bytes}
+use Rattle.bpg_numbers.specs.Ue7.{ue7Bytes}
 use Rattle.bpg_format.specs.Limits.{maxFile}
 use Rattle.bpg_format.specs.declared.record.Header.{Header}
 use Rattle.bpg_format.specs.Zero.{zeroHeader}
 use Rattle.bpg_format.specs.Content.{Flags, Extension, Loop, Content, hasAlpha, bitDepth}
 use Rattle.bpg_format.specs.Syntax.{extensionBytes, blockBytes, extensionPart, headerBits, headerBytes, bodyBytes, dataLength, fileOf}
 use Rattle.bpg_format.specs.Rules.{HeaderRules, LoopPayload, isLoop, ExtensionRules, hasLoop, OneLoop, noLoop, Rules}
-use Rattle.bpg_format.specs.FileCodec.{colorSpaceAllowed, FlagsRules, flags, notZero, dimension, period, loopNumbers, payload, extension, seenAfter, extensions, block, loopFrom, loopIn, loopOf, header, alphaHeader, body, countsBody, parts, withLoop, partsOf, lengthOf, file}
+use Rattle.bpg_format.specs.FileCodec.{FlagsRules, flags, dimension, period, loopNumbers, payload, extension, seenAfter, extensions, block, loopFrom, loopIn, loopOf, header, alphaHeader, body, countsBody, parts, withLoop, partsOf, lengthOf, file}
 use Rattle.bpg_format.proofs.FileLaws.{loopNumbers-lawful}
-use Rattle.bpg_format.proofs.SyntaxLaws.{payload-encode, each-encode, block-encode, body-encode, length-encode, file-encode}
+use Rattle.bpg_format.proofs.SyntaxLaws.{payload-encode, each-encode, length-encode, file-encode}
 use Rattle.bpg_format.proofs.HeaderRuleLaws.{unless, unless-full, header-sound, header-full}
 
 pub bool-apart {ℓ} : {P : Type ℓ} {b : Bool} → b ≡ true → b ≡ false → P

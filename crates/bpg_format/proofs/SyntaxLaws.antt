@@ -1,22 +1,21 @@
 -- What the codec writes is the file as plain concatenation. Assumes nothing.
-use mathlib.Core.Path.{_≡_, refl, sym, ap, ap₂, _∙_}
+use mathlib.Core.Path.{_≡_, refl, ap₂}
 use mathlib.Core.Bool.{Bool, true, false}
 use mathlib.Core.List.{List, [], _∷_, _++_, append-assoc}
 use Prim.Native.Nat.{ℕ}
 use lib.Dec.{eqb}
-use lib.ListN.{length, replicate}
+use lib.ListN.{replicate}
 use Rattle.bpg_codec.specs.Select.{select}
 use Rattle.bpg_codec.specs.Codec.{Codec, atItem}
-use Rattle.bpg_codec.specs.Bits.{Bit, bit, bits, padded}
+use Rattle.bpg_codec.specs.Bits.{Bit, bits}
 use Rattle.bpg_codec.specs.Parts.{sequence, mapped, guarded, sized, item, absent, fixed}
 use Rattle.bpg_codec.specs.Regions.{thenRest, itemThenRest, mappedExact, derived, guardedRegion, rest, verbatim, encodeEach, repeated, packed}
-use Rattle.bpg_numbers.specs.Ue7.{ue7, ue7Bytes}
-use Rattle.bpg_numbers.specs.BitNumbers.{unsigned, expGolomb, expGolombBits}
+use Rattle.bpg_numbers.specs.BitNumbers.{expGolombBits}
 use Rattle.bpg_format.specs.declared.record.Header.{Header}
 use Rattle.bpg_format.specs.Zero.{zeroHeader}
-use Rattle.bpg_format.specs.Content.{Flags, Extension, Content, hasAlpha, bitDepth}
-use Rattle.bpg_format.specs.Syntax.{magic, byte4, byte5, extensionBytes, blockBytes, extensionPart, pcmBits, spsExtensionBits, headerBits, headerBytes, bodyBytes, dataLength, fileOf}
-use Rattle.bpg_format.specs.FileCodec.{flags, dimension, payload, extension, seenAfter, extensions, block, oneBit, optional, SizeFields, sizeFields, pcmFields, spsFields, noPcm, noSps, fieldSequence, sizesOf, pcmOf, headerFields, header, alphaHeader, body, parts, lengthOf, partsOf, withLoop, file}
+use Rattle.bpg_format.specs.Content.{Extension, Content, hasAlpha, bitDepth}
+use Rattle.bpg_format.specs.Syntax.{extensionBytes, blockBytes, extensionPart, pcmBits, spsExtensionBits, headerBits, headerBytes, bodyBytes, dataLength, fileOf}
+use Rattle.bpg_format.specs.FileCodec.{flags, dimension, payload, extension, seenAfter, extensions, block, oneBit, optional, SizeFields, sizeFields, pcmFields, spsFields, noPcm, noSps, fieldSequence, sizesOf, pcmOf, headerFields, header, alphaHeader, body, parts, lengthOf, withLoop, file}
 
 -- ---- the extension block
 

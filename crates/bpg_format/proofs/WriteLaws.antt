@@ -1,30 +1,28 @@
 -- The writer's tests, in its order, pass exactly for contents that keep the rules. Assumes nothing.
-use mathlib.Core.Path.{_≡_, refl, sym, ap, ap₂, _∙_, subst}
+use mathlib.Core.Path.{_≡_, refl, sym, ap, _∙_, subst}
 use mathlib.Core.Bool.{Bool, true, false, not, _&&_, _||_, or-true}
-use mathlib.Core.List.{List, [], _∷_, _++_, map}
-use mathlib.Core.Logic.{_≢_}
-use Prim.Native.Nat.{ℕ, _+_, _-_, _^_, _≤_, _<_}
-use native.Mathlib.Omega.{arith}
-use lib.Dec.{T, leb, ltb, eqb, leb→le, le→leb, ltb→lt, lt→ltb}
-use lib.ListN.{length, getD, replicate}
-use mir.Facts.{eqb-yes, eqb-no, yes-eqb, no-eqb}
-use borrow.Author.Tests.{le-leb, lt-ltb, eq-eqb, eqb-true}
+use mathlib.Core.List.{List, [], _∷_}
+use Prim.Native.Nat.{ℕ, _-_, _^_, _<_}
+use lib.Dec.{T, ltb, eqb, ltb→lt}
+use lib.ListN.{length, replicate}
+use mir.Facts.{eqb-yes}
+use borrow.Author.Tests.{lt-ltb, eq-eqb}
 use Rattle.bpg_codec.specs.Select.{select}
-use Rattle.bpg_codec.specs.Outcome.{Outcome, ok, error, _>>=_, guard}
+use Rattle.bpg_codec.specs.Outcome.{Outcome, ok, error}
 use Rattle.bpg_codec.specs.Lawful.{All, Byte}
 use Rattle.bpg_codec.specs.Bits.{allZero}
 use Rattle.bpg_codec.proofs.Select.{select-true, select-false, is-true, is-false, and-left, and-right}
-use Rattle.bpg_codec.proofs.Outcome.{error-not-ok, ok-injective, unbind, unguard, guard-holds}
+use Rattle.bpg_codec.proofs.Outcome.{error-not-ok, unbind, unguard, guard-holds}
 use Rattle.bpg_codec.proofs.Packed.{zeros-allZero}
 use Rattle.bpg_format.specs.declared.record.Header.{Header}
 use Rattle.bpg_format.specs.Zero.{zeroHeader}
-use Rattle.bpg_format.specs.Content.{Flags, Extension, Loop, Content, hasAlpha, bitDepth}
-use Rattle.bpg_format.specs.Rules.{Coded, NoPcm, NoSpsExtension, FieldRules, ForbiddenBits, HevcRules, HeaderRules, LoopPayload, isLoop, ExtensionRules, hasLoop, OneLoop, noLoop, Rules}
-use Rattle.bpg_format.specs.FileCodec.{colorSpaceAllowed, notZero, loopNumbers, loopFrom, noForbiddenBit, hevcAllowed}
-use Rattle.bpg_format.specs.Write.{pcmZero, absentZero, headerZero, consistent, sameLoop, atZero, checkLoop, checkEntries, coded, fieldsCoded, checkHeader, checkContent}
+use Rattle.bpg_format.specs.Content.{Extension, Loop}
+use Rattle.bpg_format.specs.Rules.{NoPcm, NoSpsExtension, FieldRules, HeaderRules, LoopPayload, isLoop, ExtensionRules, hasLoop, OneLoop}
+use Rattle.bpg_format.specs.FileCodec.{loopNumbers, noForbiddenBit, hevcAllowed}
+use Rattle.bpg_format.specs.Write.{pcmZero, absentZero, headerZero, sameLoop, atZero, checkLoop, checkEntries, coded, fieldsCoded, checkHeader}
 use Rattle.bpg_format.proofs.FileLaws.{loopNumbers-lawful}
 use Rattle.bpg_format.proofs.HeaderRuleLaws.{unless, unless-full, forbidden-sound, forbidden-full, hevc-sound, hevc-full}
-use Rattle.bpg_format.proofs.RuleLaws.{bool-apart, by-tag, one-of, neither, flags-sound, flags-full, Numbers, loopOfNumbers, numbersOf, numbers-sound, numbers-full, none-seen, seen-none}
+use Rattle.bpg_format.proofs.RuleLaws.{bool-apart, by-tag, one-of, neither, loopOfNumbers, numbersOf, numbers-sound, numbers-full, none-seen, seen-none}
 
 -- either flag, or a test
 pub or-test : (a b : Bool) → T (a || b) → a ≡ false → T b

@@ -1,32 +1,30 @@
 -- The writer's definition answers 0 exactly for writable records, and then the bytes are the syntax's file. Assumes nothing.
-use mathlib.Core.Path.{_≡_, refl, sym, ap, ap₂, _∙_, subst}
+use mathlib.Core.Path.{_≡_, refl, sym, ap, _∙_, subst}
 use mathlib.Core.Bool.{Bool, true, false, not, _&&_, _||_}
 use mathlib.Core.List.{List, [], _∷_, _++_, map}
-use Prim.Native.Nat.{ℕ, zero, suc, _+_, _-_, _^_, _≤_, _<_}
+use Prim.Native.Nat.{ℕ, _+_, _-_, _^_, _≤_, _<_}
 use native.Mathlib.Omega.{arith}
-use lib.Dec.{T, leb, eqb, leb→le, le→leb}
-use lib.ListN.{length, take, drop, getD, replicate, length-map, length-take, length-append}
+use lib.Dec.{T, leb, eqb, leb→le}
+use lib.ListN.{length, drop, replicate, length-map, length-take, length-append}
 use lib.Seq.{drop-at}
 use mir.Facts.{eqb-yes, eqb-no, no-eqb}
-use borrow.Author.Tests.{le-leb, eq-eqb}
+use borrow.Author.Tests.{le-leb}
 use Rattle.bpg_codec.specs.Select.{select}
-use Rattle.bpg_codec.specs.Outcome.{Outcome, ok, error, _>>=_, guard}
+use Rattle.bpg_codec.specs.Outcome.{Outcome, ok}
 use Rattle.bpg_codec.specs.Lawful.{All, Byte}
 use Rattle.bpg_codec.proofs.Select.{select-true, select-false, is-true, and-left, and-right}
-use Rattle.bpg_codec.proofs.Outcome.{error-not-ok, ok-injective, unbind, unguard}
+use Rattle.bpg_codec.proofs.Outcome.{ok-injective, unbind, unguard}
 use Rattle.bpg_codec.proofs.Tokens.{all-take, all-drop, all-replicate}
 use Rattle.bpg_numbers.specs.Ue7.{ue7Bytes}
 use Rattle.bpg_format.specs.Limits.{maxFile}
-use Rattle.bpg_format.specs.declared.record.Range.{Range}
 use Rattle.bpg_format.specs.declared.record.Entry.{Entry}
-use Rattle.bpg_format.specs.declared.record.Header.{Header}
 use Rattle.bpg_format.specs.declared.record.Record.{Record}
-use Rattle.bpg_format.specs.Zero.{range, zeroEntry, zeroHeader}
-use Rattle.bpg_format.specs.Content.{isEmpty, Extension, Loop, Content, hasAlpha, bitDepth}
+use Rattle.bpg_format.specs.Zero.{zeroEntry, zeroHeader}
+use Rattle.bpg_format.specs.Content.{isEmpty, Extension, Content, hasAlpha, bitDepth}
 use Rattle.bpg_format.specs.Syntax.{extensionBytes, blockBytes, fileOf}
-use Rattle.bpg_format.specs.Rules.{HeaderRules, hasLoop, noLoop, Rules}
+use Rattle.bpg_format.specs.Rules.{hasLoop, noLoop, Rules}
 use Rattle.bpg_format.specs.FileCodec.{colorSpaceAllowed, notZero}
-use Rattle.bpg_format.specs.Records.{entriesAt, blockStart, dataStart, recordOf, bytesIn, extensionOf, usedEntries, contentOf}
+use Rattle.bpg_format.specs.Records.{entriesAt, blockStart, recordOf, extensionOf, usedEntries, contentOf}
 use Rattle.bpg_format.specs.Write.{inSource, entriesInSource, rangesInSource, isZero, zeroEntries, unusedZero, absentZero, headerZero, sameLoop, consistent, checkEntries, checkHeader, checkContent, sizedFile, writeOutcome, Typed, Writable}
 use Rattle.bpg_format.proofs.HeaderRuleLaws.{unless, unless-full}
 use Rattle.bpg_format.proofs.RuleLaws.{bool-apart, by-tag, flags-sound, flags-full}

@@ -12,7 +12,7 @@ use Rattle.bpg_format.specs.declared.record.Entry.{Entry}
 use Rattle.bpg_format.specs.declared.record.Header.{Header}
 use Rattle.bpg_format.specs.declared.record.Record.{Record}
 use Rattle.bpg_format.specs.declared.answer.Reading.{Reading}
-use Rattle.bpg_format.specs.Zero.{range, zeroHeader, zeroRecord, refusedReading}
+use Rattle.bpg_format.specs.Zero.{range, zeroHeader, refusedReading}
 use Rattle.bpg_format.specs.Records.{padEntries, readFile}
 use Rattle.bpg_format.specs.Pictures.{canonicalBuffer}
 

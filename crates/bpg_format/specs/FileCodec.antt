@@ -1,9 +1,8 @@
 -- The format as codecs (document 01, "Order of the file"): the laws of the combinators give that a file is read as a content exactly when
 -- it is the file of that content, and that the content keeps the rules. `Read` has the same reading as one plain chain.
-use mathlib.Core.Path.{_≡_}
-use mathlib.Core.Bool.{Bool, true, false, not, _&&_, _||_}
+use mathlib.Core.Bool.{Bool, false, not, _&&_, _||_}
 use mathlib.Core.List.{List, [], _∷_, _++_}
-use Prim.Native.Nat.{ℕ, _+_, _*_, _/_, _%_, _≤_}
+use Prim.Native.Nat.{ℕ, _+_, _/_, _%_}
 use lib.Dec.{T, leb, ltb, eqb}
 use lib.ListN.{length, take, drop, getD, replicate}
 use Rattle.bpg_codec.specs.Select.{select}

@@ -1,5 +1,5 @@
 -- The picture of a content, and the canonical form (document 01, "Record and picture": picture, tidy form).
-use mathlib.Core.Bool.{Bool, true, false, not}
+use mathlib.Core.Bool.{Bool, false, not}
 use mathlib.Core.List.{List, [], _∷_, _++_, map}
 use mathlib.Core.Path.{_≡_}
 use Prim.Native.Nat.{ℕ}

@@ -1,5 +1,4 @@
 -- The record of a content and the content of a record over its source (document 01, "Record and picture"), and what reading answers.
-use mathlib.Core.Bool.{Bool, true, false}
 use mathlib.Core.List.{List, [], _∷_, _++_, map}
 use Prim.Native.Nat.{ℕ, _+_, _-_, _*_, _/_, _^_}
 use lib.ListN.{length, take, drop, getD, replicate}
@@ -13,7 +12,7 @@ use Rattle.bpg_format.specs.declared.record.Header.{Header}
 use Rattle.bpg_format.specs.declared.record.Record.{Record}
 use Rattle.bpg_format.specs.declared.answer.Reading.{Reading}
 use Rattle.bpg_format.specs.Zero.{range, zeroEntry, zeroHeader, refusedReading}
-use Rattle.bpg_format.specs.Content.{Flags, Extension, Loop, Content, hasAlpha}
+use Rattle.bpg_format.specs.Content.{Extension, Content, hasAlpha}
 use Rattle.bpg_format.specs.Syntax.{blockBytes, headerBytes, dataLength}
 use Rattle.bpg_format.specs.Rules.{minCbLog2SizeY}
 use Rattle.bpg_format.specs.Read.{readContent}

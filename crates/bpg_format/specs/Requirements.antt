@@ -15,7 +15,7 @@ use Rattle.bpg_format.specs.Read.{ReadingStatus}
 use Rattle.bpg_format.specs.Records.{recordOf, contentOf, readFile}
 use Rattle.bpg_format.specs.Parts.{payloadOf, dataOf, rangesOf, InOrder, Inside}
 use Rattle.bpg_format.specs.Write.{writeFile, writeBuffer, WritingStatus, Typed, Writable}
-use Rattle.bpg_format.specs.Pictures.{Picture, canonicalBytes, SamePicture, canonicalFile, canonicalBuffer}
+use Rattle.bpg_format.specs.Pictures.{canonicalBytes, SamePicture, canonicalFile, canonicalBuffer}
 
 -- 1. "Every call takes every input. A bad file or record is refused with the number and place in document 01, any record returned is then
 -- all zero, and lent capacity keeps its old contents; an index past the last entry gives an empty part."

@@ -1,5 +1,5 @@
 -- The file that the syntax gives for a content (document 01, "Order of the file"; BPG 0.9.5, section 3.1), as plain concatenation.
-use mathlib.Core.Bool.{Bool, true, false}
+use mathlib.Core.Bool.{Bool}
 use mathlib.Core.List.{List, [], _∷_, _++_}
 use Prim.Native.Nat.{ℕ, _+_, _*_}
 use lib.ListN.{length}

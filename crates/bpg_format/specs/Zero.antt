@@ -1,6 +1,5 @@
 -- The zero values of the record, and the answers of a refusal (document 01, "Refusal numbers": an all-zero record and count 0).
-use mathlib.Core.Bool.{true, false}
-use mathlib.Core.List.{List}
+use mathlib.Core.Bool.{false}
 use Prim.Native.Nat.{ℕ}
 use lib.ListN.{replicate}
 use Rattle.bpg_format.specs.Limits.{maxEntries}

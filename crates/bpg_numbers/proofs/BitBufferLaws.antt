@@ -1,13 +1,12 @@
 -- The laws of the bit buffer: bits stored one by one are a write of bits, and what was appended to an empty buffer stands in its bytes with
 -- zero bits up to the byte. Assumes nothing.
 use mathlib.Core.Path.{_≡_, refl, sym, ap, _∙_, subst}
-use mathlib.Core.Bool.{Bool, true, false}
+use mathlib.Core.Bool.{Bool, false}
 use mathlib.Core.List.{List, [], _∷_, _++_, append-assoc}
-use Prim.Native.Nat.{ℕ, zero, suc, _+_, _-_, _*_, _/_, _%_, _^_, _≤_, _<_}
+use Prim.Native.Nat.{ℕ, suc, _+_, _-_, _*_, _/_, _%_, _^_, _≤_, _<_}
 use native.Mathlib.Nat.{add-zero}
 use native.Mathlib.Omega.{arith}
-use lib.Dec.{leb}
-use lib.ListN.{length, take, drop, getD, set, length-append, length-set, length-replicate, take-append-drop}
+use lib.ListN.{length, take, getD, set, length-append, length-set, length-replicate, take-append-drop}
 use lib.Seq.{take-append-seam, drop-append-add}
 use borrow.Author.Tests.{le-leb, lt-leb}
 use Rattle.bpg_codec.specs.Lawful.{All, Byte}

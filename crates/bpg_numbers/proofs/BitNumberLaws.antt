@@ -1,28 +1,27 @@
 -- The laws of u(n) and ue(v), over the width: the readers' equations, the round trip, that a number has one form only, and how
 -- long it is. Assumes nothing.
-use mathlib.Core.Path.{_≡_, refl, sym, ap, ap₂, _∙_, subst}
+use mathlib.Core.Path.{_≡_, refl, sym, ap, _∙_, subst}
 use mathlib.Core.Bool.{Bool, true, false}
 use mathlib.Core.List.{List, [], _∷_, _++_, append-assoc}
 use Prim.Native.Nat.{ℕ, zero, suc, _+_, _-_, _*_, _/_, _%_, _^_, _≤_, _<_}
-use native.Mathlib.Nat.{add-assoc, add-zero, zero-add, div-eq-of-lt}
+use native.Mathlib.Nat.{add-zero, zero-add, div-eq-of-lt}
 use native.Mathlib.Omega.{arith}
 use lib.Count.{leadingZeros, leading-top}
-use lib.Dec.{T, ltb, leb, leb→le, le→leb}
-use lib.ListN.{length, take, drop, getD, length-append, length-replicate, length-take, take-append-drop}
+use lib.Dec.{leb, leb→le}
+use lib.ListN.{length, take, getD, length-append, length-replicate, length-take, take-append-drop}
 use lib.Pow.{pow-pos, pow-mono, high, low as low′}
 use lib.Seq.{getD-take, length-take-le, take-at, drop-at}
 use borrow.Author.Tests.{lt-ltb, le-ltb, le-leb}
-use Rattle.bpg_codec.specs.Select.{select}
-use Rattle.bpg_codec.specs.Outcome.{Outcome, ok, error, _>>=_, guard}
-use Rattle.bpg_codec.specs.Lawful.{All, Lawful}
-use Rattle.bpg_codec.specs.Bits.{Bit, number, bits, zeros, unpack}
+use Rattle.bpg_codec.specs.Outcome.{Outcome, ok, error, _>>=_}
+use Rattle.bpg_codec.specs.Lawful.{Lawful}
+use Rattle.bpg_codec.specs.Bits.{Bit, bits, zeros, unpack}
 use Rattle.bpg_codec.proofs.Select.{select-true, select-false}
 use Rattle.bpg_codec.proofs.Outcome.{error-not-ok, ok-injective, unbind, unguard}
 use Rattle.bpg_codec.proofs.Lists.{either-way}
 use Rattle.bpg_codec.proofs.Tokens.{all-bits}
 use Rattle.bpg_codec.proofs.Bits.{length-bits, number-bits, number-small, bits-number, bits-append, bits-mod, bits-zero, unpack-take, length-unpack}
 use Rattle.bpg_codec.proofs.Parts.{Found}
-use Rattle.bpg_numbers.specs.BitNumbers.{regionBits, unsigned, prefixDecode, prefixZeros, expGolombSuffix, expGolombBits, expGolomb}
+use Rattle.bpg_numbers.specs.BitNumbers.{regionBits, unsigned, prefixDecode, prefixZeros, expGolombBits, expGolomb}
 
 -- ---- u(n)
 

@@ -4,4 +4,3 @@ pub mod Ue7Laws
 pub mod BitNumberLaws
 pub mod BitBufferLaws
 pub mod Refusals
-pub mod Examples

@@ -1,13 +1,10 @@
 -- The statuses of the number codes: 2, 7 and 8 of ue7(n), 15 of u(n) and ue(v). Assumes nothing.
-use mathlib.Core.Path.{_≡_}
 use mathlib.Core.Bool.{Bool, true, false, not}
 use mathlib.Core.List.{List, [], _∷_}
 use Prim.Native.Nat.{ℕ, _+_, _-_, _*_, _%_, _^_}
 use lib.Dec.{ltb, leb, eqb}
 use lib.ListN.{length, take, drop}
-use Rattle.bpg_codec.specs.Select.{select}
 use Rattle.bpg_codec.specs.Bits.{number}
-use Rattle.bpg_codec.specs.Outcome.{ok, error}
 use Rattle.bpg_codec.proofs.Refusals.{Refuses, refuses-ok, refuses-error, refuses-bind, refuses-guard, refuses-select, CodecRefuses}
 use Rattle.bpg_numbers.specs.Ue7.{ue7Rest, ue7Decode, ue7}
 use Rattle.bpg_numbers.specs.BitNumbers.{unsigned, prefixDecode, expGolomb}

@@ -1,21 +1,18 @@
 -- The laws of ue7(n), over n: the reader's equations, the round trip, that a number has one form only, and how long it is.
 -- Assumes nothing.
-use mathlib.Core.Path.{_≡_, refl, sym, ap, ap₂, _∙_, subst}
-use mathlib.Core.Bool.{true, false, not}
+use mathlib.Core.Path.{_≡_, refl, sym, ap, _∙_, subst}
 use mathlib.Core.List.{List, [], _∷_, _++_, append-assoc}
 use Prim.Native.Nat.{ℕ, zero, suc, _+_, _-_, _*_, _/_, _%_, _^_, _≤_, _<_}
 use native.Mathlib.Nat.{add-assoc, add-zero, le-refl, zero-lt-suc, not-suc-le-zero}
 use native.Mathlib.Decide.{ℕ-discrete}
 use native.Mathlib.Omega.{arith}
 use lib.Arith.{le-zero}
-use lib.Dec.{T, ltb, eqb, ltb→lt}
 use lib.ListN.{length, getD, length-append}
-use borrow.Author.Tests.{lt-ltb, le-ltb, eq-eqb, ne-eqb, ltb-true, ltb-false, eqb-false}
-use Rattle.bpg_codec.specs.Select.{select}
-use Rattle.bpg_codec.specs.Outcome.{Outcome, ok, error, _>>=_, guard}
+use borrow.Author.Tests.{lt-ltb, le-ltb, eq-eqb, ne-eqb}
+use Rattle.bpg_codec.specs.Outcome.{ok, error}
 use Rattle.bpg_codec.specs.Lawful.{All, Byte, Lawful}
-use Rattle.bpg_codec.proofs.Select.{select-true, select-false, is-true}
-use Rattle.bpg_codec.proofs.Outcome.{error-not-ok, ok-injective, unguard}
+use Rattle.bpg_codec.proofs.Select.{select-true, select-false}
+use Rattle.bpg_codec.proofs.Outcome.{error-not-ok, ok-injective}
 use Rattle.bpg_codec.proofs.Lists.{either-way}
 use Rattle.bpg_codec.proofs.Tokens.{all-append}
 use Rattle.bpg_numbers.specs.Ue7.{groups, ue7Bytes, ue7Rest, ue7Decode, ue7}
