@@ -27,11 +27,10 @@ canonical-of c d e = ap (λ (p : Picture). withChoices p (canonicalChoices p)) e
 
 pub equal-exactly : (c d : Content) → Rules c → Rules d → (canonicalBytes c ≡ canonicalBytes d) ↔ (pictureOf c ≡ pictureOf d)
 unfolding canonicalBytes
-equal-exactly c d r s =
-    (
-      λ e. sym (same-picture c) ∙ ap pictureOf (content-unique (canonicalContent c) (canonicalContent d) (canonical-rules c r) (canonical-rules d s) e) ∙ same-picture d,
-      λ e. ap fileOf (canonical-of c d e),
-    )
+equal-exactly c d r s = (
+  λ e. sym (same-picture c) ∙ ap pictureOf (content-unique (canonicalContent c) (canonicalContent d) (canonical-rules c r) (canonical-rules d s) e) ∙ same-picture d,
+  λ e. ap fileOf (canonical-of c d e),
+)
 
 pub again : (c : Content) → canonicalBytes (canonicalContent c) ≡ canonicalBytes c
 unfolding canonicalBytes

@@ -1,5 +1,6 @@
--- Each example of the table holds, by computation; and answers of wrong programs do not meet the definitions. Assumes nothing.
-use mathlib.Core.Path.{refl}
+-- Each example of the table holds, and so do the answers that `WrongAnswers` needs: all by computation. Assumes nothing.
+use mathlib.Core.Path.{_≡_, refl}
+use lib.ListN.{replicate}
 use lib.Count.{leadingZeros}
 use Rattle.bpg_codec.specs.Select.{select}
 use Rattle.bpg_codec.specs.Lawful.{All}
@@ -11,10 +12,55 @@ use Rattle.bpg_numbers.specs.BitNumbers.{prefixDecode, expGolombBits}
 use Rattle.bpg_format.specs.Syntax.{extensionPart, headerBits, headerBytes, bodyBytes, dataLength, fileOf}
 use Rattle.bpg_format.specs.FileCodec.{readFlags, loopIn, loopOf, loopNumbers, period, noForbiddenBit, pcmAllowed, hevcAllowed}
 use Rattle.bpg_format.specs.Read.{readLoop, readEntries, readBlock, readSizes, readPcm, readSps, readFields, readHeader, readAlphaHeader, readContent}
-use Rattle.bpg_format.specs.Records.{headEnd, blockStart, dataStart, recordOf, readFile}
-use Rattle.bpg_format.specs.Pictures.{pictureOf, withChoices, canonicalContent, canonicalBytes, canonicalOutcome, canonicalBuffer}
-use Rattle.bpg_format.specs.Examples.{Holds, examples}
+use Rattle.bpg_format.specs.Records.{headEnd, blockStart, dataStart, recordOf, contentOf, readFile}
+use Rattle.bpg_format.specs.Parts.{entryOf}
+use Rattle.bpg_format.specs.Write.{rangesInSource, unusedZero, absentZero, headerZero, consistent, checkLoop, checkEntries, fieldsCoded, checkHeader, checkContent, sizedFile, writeOutcome, writeFile, writeBuffer}
+use Rattle.bpg_format.specs.Pictures.{pictureOf, withChoices, canonicalContent, canonicalBytes, canonicalOutcome, canonicalFile, canonicalBuffer}
+use Rattle.bpg_format.specs.Requirements.{count, bytes}
+use Rattle.bpg_format.specs.Examples.{fileA, fileB, fileC, fileD, readingA, Holds, examples}
+
+pub record Answers : Type 0 where
+  pub a-reads : readFile fileA ≡ readingA
+  pub c-status : readFile fileC .status ≡ 0
+  pub c-entries : readFile fileC .«record» .«entry_count» ≡ 1
+  pub d-entries : readFile fileD .«record» .«entry_count» ≡ 2
+  pub d-first : entryOf fileD 0 .tag ≡ 1
+  pub d-second : entryOf fileD 1 .tag ≡ 2
+  pub a-written : writeFile (readingA .«record») fileA (replicate 16 0) .status ≡ 0
+  pub a-bytes : writeBuffer (readingA .«record») fileA (replicate 16 0) ≡ fileA
+  pub a-canonical : canonicalFile fileA (replicate 16 0) .status ≡ 0
+  pub a-count : count fileA (replicate 16 0) ≡ 16
+  pub b-canonical : canonicalFile fileB (replicate 16 0) .status ≡ 0
+  pub b-bytes : canonicalBuffer fileB (replicate 16 0) ≡ fileA
+  pub b-written : bytes fileB (replicate 16 0) ≡ fileA
+  pub c-canonical : canonicalFile fileC (replicate 22 0) .status ≡ 0
+  pub c-count : count fileC (replicate 22 0) ≡ 22
+
+computed : All Holds examples × Answers
+unfolding select guarded thenRest rest bits unpack pack padded groups ue7Bytes ue7Rest ue7Decode leadingZeros prefixDecode expGolombBits extensionPart headerBits headerBytes bodyBytes dataLength fileOf readFlags loopIn loopOf loopNumbers period noForbiddenBit pcmAllowed hevcAllowed readLoop readEntries readBlock readSizes readPcm readSps readFields readHeader readAlphaHeader readContent headEnd blockStart dataStart recordOf readFile pictureOf withChoices canonicalContent canonicalBytes canonicalOutcome canonicalBuffer rangesInSource unusedZero absentZero headerZero consistent checkLoop checkEntries fieldsCoded checkHeader checkContent sizedFile writeOutcome writeFile writeBuffer contentOf entryOf canonicalFile
+computed = (
+  (refl, (refl, (refl, (refl, (refl, (refl, (refl, (refl, (refl, (refl, (refl, (refl, (refl, (refl, (refl, (refl, tt)))))))))))))))),
+  record {
+    a-reads = refl;
+    c-status = refl;
+    c-entries = refl;
+    d-entries = refl;
+    d-first = refl;
+    d-second = refl;
+    a-written = refl;
+    a-bytes = refl;
+    a-canonical = refl;
+    a-count = refl;
+    b-canonical = refl;
+    b-bytes = refl;
+    b-written = refl;
+    c-canonical = refl;
+    c-count = refl;
+  },
+)
 
 pub hold : All Holds examples
-unfolding select guarded thenRest rest bits unpack pack padded groups ue7Bytes ue7Rest ue7Decode leadingZeros prefixDecode expGolombBits extensionPart headerBits headerBytes bodyBytes dataLength fileOf readFlags loopIn loopOf loopNumbers period noForbiddenBit pcmAllowed hevcAllowed readLoop readEntries readBlock readSizes readPcm readSps readFields readHeader readAlphaHeader readContent headEnd blockStart dataStart recordOf readFile pictureOf withChoices canonicalContent canonicalBytes canonicalOutcome canonicalBuffer
-hold = (refl, (refl, (refl, (refl, (refl, (refl, (refl, (refl, (refl, (refl, (refl, (refl, (refl, (refl, (refl, (refl, tt))))))))))))))))
+hold = computed .0
+
+pub answers : Answers
+answers = computed .1

@@ -99,11 +99,12 @@ flags-decodes f v i p r =
     let six : leb 6 (length (flags .encode f ++ r)) ≡ true = le-leb 6 (length (flags .encode f ++ r)) (omega arith) in
     let e = flags-back f v in
     let w = subst FlagsRules (sym e) v in
-    rw
-    (six,
-    is-true (leb (byte4 f / 32) 5) (w .pixel-format),
-    is-true (leb (byte4 f % 16) 6) (w .bit-depth),
-    is-true (colorSpaceAllowed (flagsOf (byte4 f) (byte5 f))) (w .color-space))
+    rw (
+      six,
+      is-true (leb (byte4 f / 32) 5) (w .pixel-format),
+      is-true (leb (byte4 f % 16) 6) (w .bit-depth),
+      is-true (colorSpaceAllowed (flagsOf (byte4 f) (byte5 f))) (w .color-space),
+    )
     (ap {B = Outcome (Flags × ℕ × List ℕ)} (λ (g : Flags). ok (g, p + 6, r)) e)
 
 -- six bytes and what follows them

@@ -175,18 +175,31 @@ unfolding headerFields mapped fieldSequence sequence sizeFields fixed
 fields-full depth h d r =
     let f = r .fields in
     let pcm = h .«pcm_enabled_flag» in
-    let sps = h .«sps_extension_present_flag» in
-    ((f .min-cb, (f .diff-cb, (f .min-tb, (f .diff-tb, f .depth)))),
-    (one-bit-valid (h .«sample_adaptive_offset_enabled_flag»),
-    (one-bit-valid pcm,
-    (opt-valid pcm pcmFields noPcm (pcmOf h)
-    (λ e. valid-pcm (pcmOf h) (omega (arith, r .hevc .pcm e .luma-depth)) (omega (arith, r .hevc .pcm e .chroma-depth)) (f .min-pcm e, f .diff-pcm e))
-    (λ e. none-pcm h (f .no-pcm e)),
-    (one-bit-valid (h .«strong_intra_smoothing_enabled_flag»),
-    (one-bit-valid sps,
-    (opt-valid sps spsFields noSps _ (λ e. sps-valid _ _ (r .forbidden .seven-bits))
-    (λ e. let n = f .no-extension e in λ z. (n .range-flag z, n .seven-bits z)),
-    opt-valid (h .«sps_range_extension_flag») (fixed Bit 9 15 atItem) (replicate 9 false) _ (λ e. (all-bits (h .«range_flags»), f .nine)) (f .no-range))))))))
+    let sps = h .«sps_extension_present_flag» in (
+      (f .min-cb, (f .diff-cb, (f .min-tb, (f .diff-tb, f .depth)))),
+      (
+        one-bit-valid (h .«sample_adaptive_offset_enabled_flag»),
+        (
+          one-bit-valid pcm,
+          (
+            opt-valid pcm pcmFields noPcm (pcmOf h)
+                (λ e. valid-pcm (pcmOf h) (omega (arith, r .hevc .pcm e .luma-depth)) (omega (arith, r .hevc .pcm e .chroma-depth)) (f .min-pcm e, f .diff-pcm e))
+                (λ e. none-pcm h (f .no-pcm e)),
+            (
+              one-bit-valid (h .«strong_intra_smoothing_enabled_flag»),
+              (
+                one-bit-valid sps,
+                (
+                  opt-valid sps spsFields noSps _ (λ e. sps-valid _ _ (r .forbidden .seven-bits))
+                      (λ e. let n = f .no-extension e in λ z. (n .range-flag z, n .seven-bits z)),
+                  opt-valid (h .«sps_range_extension_flag») (fixed Bit 9 15 atItem) (replicate 9 false) _ (λ e. (all-bits (h .«range_flags»), f .nine)) (f .no-range),
+                ),
+              ),
+            ),
+          ),
+        ),
+      ),
+    )
 
 -- ---- the header
 

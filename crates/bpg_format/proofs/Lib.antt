@@ -16,3 +16,4 @@ pub mod Canonical
 pub mod Requirements
 pub mod WritingRefusals
 pub mod Examples
+pub mod WrongAnswers

@@ -1,9 +1,10 @@
 -- Payloads and data of a file lie in it in order, and no two share a byte. Assumes nothing.
-use mathlib.Core.Path.{_≡_, sym, ap, _∙_, subst}
+use mathlib.Core.Path.{_≡_, refl, sym, ap, _∙_, subst}
 use mathlib.Core.List.{List, [], _∷_, _++_, map}
-use Prim.Native.Nat.{ℕ, zero, suc, _+_, _≤_, _<_}
+use Prim.Native.Nat.{ℕ, zero, suc, _+_, _-_, _≤_, _<_}
 use native.Mathlib.Omega.{arith}
-use lib.ListN.{length, getD, length-append}
+use lib.ListN.{length, drop, getD, length-append, take-append-drop}
+use lib.Seq.{drop-drop}
 use Rattle.bpg_numbers.specs.Ue7.{ue7Bytes}
 use Rattle.bpg_codec.proofs.Lists.{either-way}
 use Rattle.bpg_format.specs.declared.record.Range.{Range}
@@ -12,8 +13,8 @@ use Rattle.bpg_format.specs.Zero.{range}
 use Rattle.bpg_format.specs.Content.{Extension, Content}
 use Rattle.bpg_format.specs.Syntax.{extensionBytes, blockBytes, fileOf}
 use Rattle.bpg_format.specs.Rules.{Rules}
-use Rattle.bpg_format.specs.Records.{entriesAt, blockStart, dataStart, recordOf}
-use Rattle.bpg_format.specs.Parts.{rangesOf, rangeEnd, InOrder, Inside}
+use Rattle.bpg_format.specs.Records.{entriesAt, blockStart, dataStart, recordOf, bytesIn}
+use Rattle.bpg_format.specs.Parts.{rangesOf, rangeEnd, InOrder, joined, Inside}
 use Rattle.bpg_format.proofs.RecordLaws.{used-entries, beforeData, data-file, data-length}
 
 abbrev payloads : List Entry → List Range
@@ -51,6 +52,15 @@ in-order p rs e a = record { apart = apart p rs a; within = within p rs a }
     within p (r ∷ rs) a zero h = ends (rangeEnd r) rs e (a .1)
     within p (r ∷ rs) a (suc i) h = within (rangeEnd r) rs (a .1) i (omega arith)
 
+join : (p : ℕ) (rs : List Range) (e : ℕ) (f : List ℕ) → Ascending p rs e → joined p rs f ≡ drop p f
+join p [] e f a = refl
+join p (r ∷ rs) e f a =
+    let start : p + (r .start - p) ≡ r .start = omega (arith, a .0) in
+    let gap = sym (drop-drop (r .start - p) p f ∙ ap (λ (n : ℕ). drop n f) start) in
+    let tail = join (rangeEnd r) rs e f (a .1) ∙ sym (drop-drop (r .length) (r .start) f) in
+    let whole : bytesIn f r ++ joined (rangeEnd r) rs f ≡ drop (r .start) f = rw tail (take-append-drop (r .length) (drop (r .start) f)) in
+    rw (whole, gap) (take-append-drop (r .start - p) (drop p f))
+
 -- ---- the ranges of a file
 
 entries-ascend : (es : List Extension) (p q e : ℕ) (d : Range) → p + length (blockBytes es) ≤ d .start → rangeEnd d ≤ e → q ≤ p
@@ -72,14 +82,23 @@ pub data-end : (c : Content) → Rules c → length (fileOf c) ≡ dataStart c +
 data-end c r =
     ap length (data-file c (r .absent-block)) ∙ length-append (beforeData c) (c .hevcData) ∙ ap (λ (n : ℕ). n + length (c .hevcData)) (data-length c)
 
-pub ranges-in-order : (c : Content) → Rules c → InOrder (rangesOf (recordOf c)) (length (fileOf c))
+ascend : (c : Content) → Rules c → Ascending 0 (rangesOf (recordOf c)) (length (fileOf c))
 unfolding recordOf
-ranges-in-order c r =
+ascend c r =
     let d = range (dataStart c) (length (c .hevcData)) in
     let file = data-end c r in
-    in-order 0 _ _
-    (subst (λ (es : List Entry). Ascending 0 (payloads es ++ (d ∷ [])) (length (fileOf c))) (sym (used-entries (blockStart c) (c .extensions)))
-    (entries-ascend (c .extensions) (blockStart c) 0 (length (fileOf c)) d (start-after c) (omega arith) (omega arith)))
+    subst (λ (es : List Entry). Ascending 0 (payloads es ++ (d ∷ [])) (length (fileOf c))) (sym (used-entries (blockStart c) (c .extensions)))
+    (entries-ascend (c .extensions) (blockStart c) 0 (length (fileOf c)) d (start-after c) (omega arith) (omega arith))
+
+pub ranges-in-order : (c : Content) → Rules c → InOrder (rangesOf (recordOf c)) (length (fileOf c))
+ranges-in-order c r = in-order 0 _ _ (ascend c r)
+
+pub data-last : (c : Content) → Rules c → rangeEnd (recordOf c .«data») ≡ length (fileOf c)
+unfolding recordOf
+data-last c r = sym (data-end c r)
+
+pub ranges-whole : (c : Content) → Rules c → joined 0 (rangesOf (recordOf c)) (fileOf c) ≡ fileOf c
+ranges-whole c r = join 0 (rangesOf (recordOf c)) (length (fileOf c)) (fileOf c) (ascend c r)
 
 -- an offset that lies in two of them lies in one and the same
 pub one-range : (rs : List Range) (size offset i j : ℕ) → InOrder rs size → i < length rs → j < length rs

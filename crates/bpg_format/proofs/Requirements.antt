@@ -24,7 +24,7 @@ use Rattle.bpg_format.specs.Pictures.{Picture, pictureOf, canonicalConte
 use Rattle.bpg_format.specs.Requirements.{Refusals, Reading, Writing, Ranges, count, bytes, OneFormPerPicture}
 use Rattle.bpg_format.proofs.Reading.{reads, answer, accepted-status, status-accepted, refusal, statuses, content-unique}
 use Rattle.bpg_format.proofs.RecordLaws.{content-record}
-use Rattle.bpg_format.proofs.RangeLaws.{ranges-in-order, one-range}
+use Rattle.bpg_format.proofs.RangeLaws.{ranges-in-order, ranges-whole, data-last, one-range}
 use Rattle.bpg_format.proofs.WritingRefusals.{write-refuses}
 use Rattle.bpg_format.proofs.Writing.{written-sound, written-full, record-written}
 use Rattle.bpg_format.proofs.CanonicalLaws.{same-picture, canonical-rules}
@@ -103,11 +103,10 @@ written-outcome (error s o) h e = absurd (omega (arith, h s o refl .0 .least))
 
 exactly : (r : Record) (source out : List ℕ) → Typed r → All Byte source → (writeFile r source out .status ≡ 0) ↔ Writable (length out) r source
 unfolding writeFile
-exactly r source out t b =
-    (
-      λ e. let w = written-outcome (writeOutcome (length out) r source) (write-refuses (length out) r source) e in written-sound r source t b (length out) (w .0) (w .1) .0,
-      λ w. success (writeOutcome (length out) r source) (fileOf (contentOf r source)) out (written-full (length out) r source w) .0,
-    )
+exactly r source out t b = (
+  λ e. let w = written-outcome (writeOutcome (length out) r source) (write-refuses (length out) r source) e in written-sound r source t b (length out) (w .0) (w .1) .0,
+  λ w. success (writeOutcome (length out) r source) (fileOf (contentOf r source)) out (written-full (length out) r source w) .0,
+)
 
 written-bytes : (r : Record) (source out : List ℕ) → Writable (length out) r source
     → (writeFile r source out .count ≡ length (fileOf (contentOf r source)))
@@ -136,7 +135,13 @@ pub writing : Writing
 writing = record { exactly = exactly; bytes = written-bytes; read-back = read-back; same-file = same-file }
 
 pub ranges : Ranges
-ranges = record { in-order = ranges-in-order; no-shared-byte = λ c r offset i j. one-range (rangesOf (recordOf c)) (length (fileOf c)) offset i j (ranges-in-order c r) }
+ranges =
+    record {
+      in-order = ranges-in-order;
+      no-shared-byte = λ c r offset i j. one-range (rangesOf (recordOf c)) (length (fileOf c)) offset i j (ranges-in-order c r);
+      whole = ranges-whole;
+      data-last = data-last;
+    }
 
 -- ---- 3
 
@@ -171,12 +176,11 @@ canonical-is c = refl
 module _ (f g out1 out2 : List ℕ) (c d : Content) (r : Rules c) (s : Rules d) (i : f ≡ fileOf c) (j : g ≡ fileOf d) (x : Done f out1 c) (y : Done g out2 d) where
   equal : ((count f out1 ≡ count g out2) × (bytes f out1 ≡ bytes g out2)) ↔ SamePicture f g
   equal =
-      let eq = equal-exactly c d r s in
-      (
+      let eq = equal-exactly c d r s in (
         λ e. (pictureOf c, shows c r f i, record { content = d; rules = s; is = j; picture = sym (eq .0 (sym (x .bytes-are) ∙ e .1 ∙ y .bytes-are)) }),
         λ p.
-        let same = eq .1 (picture-of c r f i (p .0) (p .1) ∙ sym (picture-of d s g j (p .0) (p .2))) in
-        (x .count-is ∙ ap length same ∙ sym (y .count-is), x .bytes-are ∙ same ∙ sym (y .bytes-are)),
+            let same = eq .1 (picture-of c r f i (p .0) (p .1) ∙ sym (picture-of d s g j (p .0) (p .2))) in
+            (x .count-is ∙ ap length same ∙ sym (y .count-is), x .bytes-are ∙ same ∙ sym (y .bytes-are)),
       )
 
 module _ (f out : List ℕ) (c : Content) (r : Rules c) (i : f ≡ fileOf c) (x : Done f out c) where
@@ -206,12 +210,11 @@ one-form-per-picture f g out1 out2 a b h k =
       equal = equal f g out1 out2 c (b .0) (a .1) (b .1) (a .2) (b .2) x y;
       form = λ e r i. x .bytes-are ∙ ap canonicalBytes (content-unique c e (a .1) r (sym (a .2) ∙ i));
       is-accepted = (canonicalContent c, canonical-rules c (a .1), written f out1 c (a .1) (a .2) x);
-      same =
-          (
-            pictureOf c,
-            record { content = canonicalContent c; rules = canonical-rules c (a .1); is = written f out1 c (a .1) (a .2) x; picture = same-picture c },
-            shows c (a .1) f (a .2),
-          );
+      same = (
+        pictureOf c,
+        record { content = canonicalContent c; rules = canonical-rules c (a .1); is = written f out1 c (a .1) (a .2) x; picture = same-picture c },
+        shows c (a .1) f (a .2),
+      );
       again = once-more f out1 c (a .1) (a .2) x;
       minimal = least f out1 c (a .1) (a .2) x;
     }

@@ -168,13 +168,12 @@ rules-of-entry seen e p v f =
 
 entries-sound : (seen : Bool) (es : List Extension) → EachValid seen es → (p : Loop) → (hasLoop es ≡ true → p ≡ loopOf es) → All (ExtensionRules p) es
 entries-sound seen [] v p f = tt
-entries-sound seen (e ∷ es) v p f =
-    (
-      rules-of-entry seen e p (v .0) (λ l. f (rw l) ∙ loop-head e es l),
-      entries-sound (seenAfter seen e) es (v .1) p (λ h. by-tag (isLoop e)
+entries-sound seen (e ∷ es) v p f = (
+  rules-of-entry seen e p (v .0) (λ l. f (rw l) ∙ loop-head e es l),
+  entries-sound (seenAfter seen e) es (v .1) p (λ h. by-tag (isLoop e)
       (λ l. bool-apart h (no-loops (seenAfter seen e) es (v .1) (rw l (or-true seen))))
       (λ l. f (rw l h) ∙ loop-tail e es l)),
-    )
+)
 
 loop-full : (es : List Extension) (p : Loop) → All (ExtensionRules p) es → hasLoop es ≡ true → p ≡ loopOf es
 loop-full [] p r h = bool-apart h refl
@@ -192,12 +191,11 @@ entries-full seen [] p r o f s = tt
 entries-full seen (e ∷ es) p r o f s =
     let n1 = length-append (extensionBytes e) (blockBytes es) in
     let n2 = length-append (ue7Bytes (e .tag)) (ue7Bytes (length (e .payload)) ++ e .payload) in
-    let n3 = length-append (ue7Bytes (length (e .payload))) (e .payload) in
-    (
+    let n3 = length-append (ue7Bytes (length (e .payload))) (e .payload) in (
       entry-full seen e (r .0 .tag) (seen-none seen (isLoop e) (λ h. neither (isLoop e) (hasLoop es) (f h) .0))
-      (payload-full (isLoop e) (e .payload) (r .0 .bytes) (readable-of e p (r .0))) (omega arith),
+          (payload-full (isLoop e) (e .payload) (r .0 .bytes) (readable-of e p (r .0))) (omega arith),
       entries-full (seenAfter seen e) es p (r .1) (o .1)
-      (λ h. one-of seen (isLoop e) h (λ g. neither (isLoop e) (hasLoop es) (f g) .1) (λ l. o .0 l)) (omega arith),
+          (λ h. one-of seen (isLoop e) h (λ g. neither (isLoop e) (hasLoop es) (f g) .1) (λ l. o .0 l)) (omega arith),
     )
 
 -- ---- the block
@@ -362,18 +360,35 @@ pub file-full : (c : Content) → Rules c → file .Valid c
 unfolding file mappedExact withLoop derived parts guardedRegion thenRest itemThenRest flags dimension guarded body alphaHeader rest
 file-full c r =
     let d = bitDepth (c .flags) in
-    let es = entries-full false (c .extensions) (c .loop) (r .entries) (r .one-loop) (λ e. bool-apart e refl) (block-fits c r) in
-    (
-      (fits c r,
-      (flags-full (c .flags) (r .pixel-format) (r .bit-depth) (r .color-space) (r .gray),
-      ((r .width, no-eqb (r .width-not-zero)),
-      ((r .height, no-eqb (r .height-not-zero)),
-      (length-fits c r,
-      (block-full (c .flags .extensionPresent) (c .extensions) (r .absent-block) es (r .entry-limit) (block-fits c r),
-      (unless-full (c .flags .animation) (hasLoop (c .extensions)) (λ a. rw (r .animated a) tt),
-      (counts (c .explicitLength) _,
-      (alpha-full (hasAlpha (c .flags)) d (c .alphaHeader) (r .no-alpha)
-      (λ a. header-full d (c .alphaHeader) (depth-most c r) (r .alpha-header a) (alpha-fits c r a)),
-      (header-full d (c .colorHeader) (depth-most c r) (r .color-header) (color-fits c r), r .data-bytes)))))))))),
+    let es = entries-full false (c .extensions) (c .loop) (r .entries) (r .one-loop) (λ e. bool-apart e refl) (block-fits c r) in (
+      (
+        fits c r,
+        (
+          flags-full (c .flags) (r .pixel-format) (r .bit-depth) (r .color-space) (r .gray),
+          (
+            (r .width, no-eqb (r .width-not-zero)),
+            (
+              (r .height, no-eqb (r .height-not-zero)),
+              (
+                length-fits c r,
+                (
+                  block-full (c .flags .extensionPresent) (c .extensions) (r .absent-block) es (r .entry-limit) (block-fits c r),
+                  (
+                    unless-full (c .flags .animation) (hasLoop (c .extensions)) (λ a. rw (r .animated a) tt),
+                    (
+                      counts (c .explicitLength) _,
+                      (
+                        alpha-full (hasAlpha (c .flags)) d (c .alphaHeader) (r .no-alpha)
+                            (λ a. header-full d (c .alphaHeader) (depth-most c r) (r .alpha-header a) (alpha-fits c r a)),
+                        (header-full d (c .colorHeader) (depth-most c r) (r .color-header) (color-fits c r), r .data-bytes),
+                      ),
+                    ),
+                  ),
+                ),
+              ),
+            ),
+          ),
+        ),
+      ),
       loop-is c r,
     )

@@ -69,18 +69,19 @@ nine-encode l = refl
 pub fields-encode : (h : Header) → headerFields .encode h ≡ headerBits h
 unfolding headerFields mapped fieldSequence sequence headerBits
 fields-encode h =
-    rw
-    (sizes-encode (sizesOf h),
-    one-bit (h .«sample_adaptive_offset_enabled_flag»),
-    one-bit (h .«pcm_enabled_flag»),
-    optional-encode (h .«pcm_enabled_flag») pcmFields noPcm (pcmOf h),
-    pcm-encode h,
-    one-bit (h .«strong_intra_smoothing_enabled_flag»),
-    one-bit (h .«sps_extension_present_flag»),
-    optional-encode (h .«sps_extension_present_flag») spsFields noSps (h .«sps_range_extension_flag», h .«sps_extension_7bits»),
-    sps-encode h,
-    optional-encode (h .«sps_range_extension_flag») (fixed Bit 9 15 atItem) (replicate 9 false) (h .«range_flags»),
-    nine-encode (h .«range_flags»))
+    rw (
+      sizes-encode (sizesOf h),
+      one-bit (h .«sample_adaptive_offset_enabled_flag»),
+      one-bit (h .«pcm_enabled_flag»),
+      optional-encode (h .«pcm_enabled_flag») pcmFields noPcm (pcmOf h),
+      pcm-encode h,
+      one-bit (h .«strong_intra_smoothing_enabled_flag»),
+      one-bit (h .«sps_extension_present_flag»),
+      optional-encode (h .«sps_extension_present_flag») spsFields noSps (h .«sps_range_extension_flag», h .«sps_extension_7bits»),
+      sps-encode h,
+      optional-encode (h .«sps_range_extension_flag») (fixed Bit 9 15 atItem) (replicate 9 false) (h .«range_flags»),
+      nine-encode (h .«range_flags»),
+    )
     (simp append-assoc)
 
 pub header-encode : (depth : ℕ) (h : Header) → header depth .encode h ≡ headerBytes h

@@ -90,7 +90,7 @@ module _ (h : Header) where
       is-true _ (or-full (h .«sps_range_extension_flag») (allZero (h .«range_flags»)) (r .no-range)) in
       rw (a, b, c)
 
--- ---- headers: 15, 17, 16
+  -- ---- headers: 15, 17, 16
 
   abbrev pcmCoded : Bool
   pcmCoded = coded (h .«log2_min_pcm_luma_coding_block_size_minus3») && coded (h .«log2_diff_max_min_pcm_luma_coding_block_size»)

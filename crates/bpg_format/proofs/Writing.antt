@@ -127,15 +127,16 @@ content-passes c r =
     let f = flags-full (c .flags) (r .pixel-format) (r .bit-depth) (r .color-space) (r .gray) in
     let alpha : select (hasAlpha (c .flags)) (checkHeader (bitDepth (c .flags)) (c .alphaHeader)) (ok tt) ≡ ok tt =
     by-tag (hasAlpha (c .flags)) (λ a. select-true _ _ a ∙ header-passes (c .alphaHeader) (bitDepth (c .flags)) (r .alpha-header a)) (λ a. select-false _ _ a) in
-    rw
-    (le-leb _ _ (r .pixel-format),
-    le-leb _ _ (r .bit-depth),
-    is-true (colorSpaceAllowed (c .flags)) (f .color-space),
-    is-true (notZero (c .width)) (no-eqb (r .width-not-zero)),
-    is-true (notZero (c .height)) (no-eqb (r .height-not-zero)),
-    entries-pass (c .loop) false (c .extensions) (r .entries) (r .one-loop) (λ e. bool-apart e refl),
-    is-true (not (c .flags .animation) || hasLoop (c .extensions)) (unless-full (c .flags .animation) (hasLoop (c .extensions)) (λ a. rw (r .animated a) tt)),
-    alpha)
+    rw (
+      le-leb _ _ (r .pixel-format),
+      le-leb _ _ (r .bit-depth),
+      is-true (colorSpaceAllowed (c .flags)) (f .color-space),
+      is-true (notZero (c .width)) (no-eqb (r .width-not-zero)),
+      is-true (notZero (c .height)) (no-eqb (r .height-not-zero)),
+      entries-pass (c .loop) false (c .extensions) (r .entries) (r .one-loop) (λ e. bool-apart e refl),
+      is-true (not (c .flags .animation) || hasLoop (c .extensions)) (unless-full (c .flags .animation) (hasLoop (c .extensions)) (λ a. rw (r .animated a) tt)),
+      alpha,
+    )
     (header-passes (c .colorHeader) (bitDepth (c .flags)) (r .color-header))
 
 -- ---- the record
@@ -195,8 +196,7 @@ module _ (r : Record) (source : List ℕ) (typed : Typed r) (bytes : All Byte so
       unbind (checkContent c) _ e3 λ u e4 e5.
       unguard (leb (length (fileOf c)) maxFile) 1 0 _ e5 λ t6 e6.
       unguard (leb (length (fileOf c)) capacity) 20 0 _ e6 λ t7 e7.
-      let few = leb→le (r .«entry_count») 16 t1 in
-      (
+      let few = leb→le (r .«entry_count») 16 t1 in (
         record {
           few = few;
           payloads = in-source-sound source (usedEntries r) (and-left (entriesInSource source (usedEntries r)) _ t2);
@@ -211,15 +211,16 @@ module _ (r : Record) (source : List ℕ) (typed : Typed r) (bytes : All Byte so
 pub written-full : (capacity : ℕ) (r : Record) (source : List ℕ) → Writable capacity r source → writeOutcome capacity r source ≡ ok (fileOf (contentOf r source))
 unfolding writeOutcome sizedFile rangesInSource unusedZero
 written-full capacity r source w =
-    rw
-    (le-leb _ _ (w .few),
-    in-source-full source (usedEntries r) (w .payloads),
-    le-leb _ _ (w .data-range),
-    zero-full (drop (r .«entry_count») (r .entries)) (w .unused),
-    consistent-full (contentOf r source) (w .rules),
-    content-passes (contentOf r source) (w .rules),
-    le-leb _ _ (w .rules .size),
-    le-leb _ _ (w .holds))
+    rw (
+      le-leb _ _ (w .few),
+      in-source-full source (usedEntries r) (w .payloads),
+      le-leb _ _ (w .data-range),
+      zero-full (drop (r .«entry_count») (r .entries)) (w .unused),
+      consistent-full (contentOf r source) (w .rules),
+      content-passes (contentOf r source) (w .rules),
+      le-leb _ _ (w .rules .size),
+      le-leb _ _ (w .holds),
+    )
 
 -- ---- the record of an accepted file is written over that file, as that file
 

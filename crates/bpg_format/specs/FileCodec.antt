@@ -185,31 +185,58 @@ headerFrom x =
     }
 
 abbrev pub sizesOf : Header → SizeFields
-sizesOf h =
-    (h .«log2_min_luma_coding_block_size_minus3»,
-    (h .«log2_diff_max_min_luma_coding_block_size»,
-    (h .«log2_min_transform_block_size_minus2»,
-    (h .«log2_diff_max_min_transform_block_size»,
-    h .«max_transform_hierarchy_depth_intra»))))
+sizesOf h = (
+  h .«log2_min_luma_coding_block_size_minus3»,
+  (
+    h .«log2_diff_max_min_luma_coding_block_size»,
+    (
+      h .«log2_min_transform_block_size_minus2»,
+      (
+        h .«log2_diff_max_min_transform_block_size»,
+        h .«max_transform_hierarchy_depth_intra»,
+      ),
+    ),
+  ),
+)
 
 abbrev pub pcmOf : Header → PcmFields
-pcmOf h =
-    (h .«pcm_sample_bit_depth_luma_minus1»,
-    (h .«pcm_sample_bit_depth_chroma_minus1»,
-    (h .«log2_min_pcm_luma_coding_block_size_minus3»,
-    (h .«log2_diff_max_min_pcm_luma_coding_block_size»,
-    h .«pcm_loop_filter_disabled_flag»))))
+pcmOf h = (
+  h .«pcm_sample_bit_depth_luma_minus1»,
+  (
+    h .«pcm_sample_bit_depth_chroma_minus1»,
+    (
+      h .«log2_min_pcm_luma_coding_block_size_minus3»,
+      (
+        h .«log2_diff_max_min_pcm_luma_coding_block_size»,
+        h .«pcm_loop_filter_disabled_flag»,
+      ),
+    ),
+  ),
+)
 
 abbrev pub fieldsOf : Header → FieldTuple
-fieldsOf h =
-    (sizesOf h,
-    (h .«sample_adaptive_offset_enabled_flag»,
-    (h .«pcm_enabled_flag»,
-    (pcmOf h,
-    (h .«strong_intra_smoothing_enabled_flag»,
-    (h .«sps_extension_present_flag»,
-    ((h .«sps_range_extension_flag», h .«sps_extension_7bits»),
-    h .«range_flags»)))))))
+fieldsOf h = (
+  sizesOf h,
+  (
+    h .«sample_adaptive_offset_enabled_flag»,
+    (
+      h .«pcm_enabled_flag»,
+      (
+        pcmOf h,
+        (
+          h .«strong_intra_smoothing_enabled_flag»,
+          (
+            h .«sps_extension_present_flag»,
+            (
+              (h .«sps_range_extension_flag», h .«sps_extension_7bits»),
+              h .«range_flags»,
+            ),
+          ),
+        ),
+      ),
+    ),
+  ),
+)
 
 unfoldable pub headerFields : Codec Bool Header
 headerFields = mapped fieldSequence headerFrom fieldsOf

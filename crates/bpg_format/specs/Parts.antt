@@ -1,8 +1,8 @@
 -- The parts of a file that calls hand out (document 01, "The pieces delivered": payload by index): ranges of the record that reading gives.
 -- A refused file has a zero record, and an index past the last entry the zero entry, so both give the empty range at 0.
 use mathlib.Core.List.{List, [], _∷_, _++_, map}
-use Prim.Native.Nat.{ℕ, _+_, _≤_, _<_}
-use lib.ListN.{length, getD}
+use Prim.Native.Nat.{ℕ, _+_, _-_, _≤_, _<_}
+use lib.ListN.{length, take, drop, getD}
 use Rattle.bpg_format.specs.declared.record.Range.{Range}
 use Rattle.bpg_format.specs.declared.record.Entry.{Entry}
 use Rattle.bpg_format.specs.declared.record.Record.{Record}
@@ -32,6 +32,11 @@ rangeEnd r = r .start + r .length
 pub record InOrder (rs : List Range) (size : ℕ) : Type 0 where
   pub apart : (i j : ℕ) → i < j → j < length rs → rangeEnd (getD rs i (range 0 0)) ≤ getD rs j (range 0 0) .start
   pub within : (i : ℕ) → i < length rs → rangeEnd (getD rs i (range 0 0)) ≤ size
+
+-- the bytes of a file from p on: what lies before each range, the range, and what follows the last
+abbrev pub joined : (p : ℕ) → List Range → List ℕ → List ℕ
+joined p [] f = drop p f
+joined p (r ∷ rs) f = take (r .start - p) (drop p f) ++ (bytesIn f r ++ joined (rangeEnd r) rs f)
 
 -- an offset that lies in a range
 pub record Inside (offset : ℕ) (r : Range) : Type 0 where

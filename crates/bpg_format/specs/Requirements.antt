@@ -13,7 +13,7 @@ use Rattle.bpg_format.specs.Syntax.{fileOf}
 use Rattle.bpg_format.specs.Rules.{Rules, Accepted}
 use Rattle.bpg_format.specs.Read.{ReadingStatus}
 use Rattle.bpg_format.specs.Records.{recordOf, contentOf, readFile}
-use Rattle.bpg_format.specs.Parts.{payloadOf, dataOf, rangesOf, InOrder, Inside}
+use Rattle.bpg_format.specs.Parts.{payloadOf, dataOf, rangesOf, rangeEnd, InOrder, joined, Inside}
 use Rattle.bpg_format.specs.Write.{writeFile, writeBuffer, WritingStatus, Typed, Writable}
 use Rattle.bpg_format.specs.Pictures.{canonicalBytes, SamePicture, canonicalFile, canonicalBuffer}
 
@@ -67,6 +67,9 @@ pub record Ranges : Type 0 where
   pub in-order : (c : Content) → Rules c → InOrder (rangesOf (recordOf c)) (length (fileOf c))
   pub no-shared-byte : (c : Content) → Rules c → (offset i j : ℕ) → i < length (rangesOf (recordOf c)) → j < length (rangesOf (recordOf c))
       → Inside offset (getD (rangesOf (recordOf c)) i (range 0 0)) → Inside offset (getD (rangesOf (recordOf c)) j (range 0 0)) → i ≡ j
+  -- with the parts between them they make up the file, of which the data is the end
+  pub whole : (c : Content) → Rules c → joined 0 (rangesOf (recordOf c)) (fileOf c) ≡ fileOf c
+  pub data-last : (c : Content) → Rules c → rangeEnd (recordOf c .«data») ≡ length (fileOf c)
 
 -- 3. "Take any two accepted files, and tidy each into capacity that holds its tidy form, whatever bytes that capacity had before."
 module _ (f out : List ℕ) where

@@ -1,7 +1,6 @@
 // What the calls answer. Status 0 is success, else document 01's refusal number; offset is document 01's place.
 use crate::record::Record;
 use crate::record::zero_record;
-
 ghost use mathlib.Core.Path.{_≡_};
 ghost use Rattle.bpg_format.specs.Zero.{refusedReading, refusedWritten};
 

@@ -4,6 +4,7 @@ ghost use Rattle.bpg_format.specs.Zero.{zeroHeader, zeroEntry, zeroRecor
 
 // House rules of document 01.
 pub const MAX_ENTRIES: usize = 16;
+
 pub const MAX_FILE: usize = 16_777_216;
 
 // Bytes of the file, or of the source that a record is written from.
