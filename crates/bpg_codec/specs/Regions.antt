@@ -47,7 +47,7 @@ module _ {S : Type 0} where
         Valid = λ x. c .Valid (x .0) × (x .1 ≡ f (x .0));
       }
 
-  -- a rule on the region's length, judged before the region is read
+  -- a rule, which may look at the region's length, judged before the region is read
   unfoldable pub guardedRegion : {A : Type 0} → (rule : ℕ → Bool) (status : ℕ) (offset : ℕ → ℕ → ℕ) → Exact S A → Exact S A
   guardedRegion rule status offset c =
       record {
@@ -94,7 +94,8 @@ module _ {S : Type 0} where
           Valid = λ xs. ValidEach s xs × (length xs ≤ most);
         }
 
--- bits in bytes: after them 0 to 7 zero bits up to the region's end, else an error at the item
+-- bits in bytes: after them 0 to 7 zero bits up to the region's end, else an error at the item. The bits' own offsets count bits from the
+-- file's start; the item's offset stays that of its byte
 unfoldable pub packed : {A : Type 0} → (status : ℕ) → Codec Bool A → Exact ℕ A
 packed status c =
     record {

@@ -21,10 +21,11 @@ use Rattle.bpg_format.specs.Content.{Flags, Extension, Loop, Content, ha
 use Rattle.bpg_format.specs.Syntax.{magic, byte4, byte5}
 use Rattle.bpg_format.specs.Rules.{minCbLog2SizeY, ctbLog2SizeY, minTbLog2SizeY, maxTbLog2SizeY, log2MinIpcmCbSizeY, isLoop, hasLoop, noLoop}
 
--- ---- 1 and 2: magic, byte 4, byte 5
+-- ---- items 1 and 2: magic, byte 4, byte 5
 
-abbrev pub flag : (byte place : ℕ) → Bool
-flag b d = eqb (b / d % 2) 1
+-- the bit of a byte whose weight is w, a power of two
+abbrev pub flag : (byte w : ℕ) → Bool
+flag b w = eqb (b / w % 2) 1
 
 abbrev pub flagsOf : (b4 b5 : ℕ) → Flags
 flagsOf b4 b5 =
@@ -39,7 +40,7 @@ flagsOf b4 b5 =
       animation = flag b5 1;
     }
 
--- 0 to 4; 0 if the pixel format is 0
+-- refusal 6: 0 to 4; 0 if the pixel format is 0
 abbrev pub colorSpaceAllowed : Flags → Bool
 colorSpaceAllowed f = leb (f .colorSpace) 4 && (not (eqb (f .pixelFormat) 0) || eqb (f .colorSpace) 0)
 
@@ -48,7 +49,7 @@ pub record FlagsRules (f : Flags) : Type 0 where
   pub bit-depth : T (leb (f .bitDepthMinus8) 6)
   pub color-space : T (colorSpaceAllowed f)
 
--- fewer than 6 bytes is 2 at place 0; format before depth on byte 4
+-- fewer than 6 bytes is 2 at place 0; format before depth on byte 4. These stand at the start of a file: the places are the file's
 unfoldable pub readFlags : List ℕ → Outcome Flags
 readFlags l =
     let f = flagsOf (getD l 4 0) (getD l 5 0) in
@@ -67,7 +68,7 @@ flags =
       Valid = FlagsRules;
     }
 
--- ---- 3: width and height are not 0
+-- ---- item 3: width and height are not 0
 
 abbrev pub notZero : ℕ → Bool
 notZero v = not (eqb v 0)
@@ -75,7 +76,7 @@ notZero v = not (eqb v 0)
 unfoldable pub dimension : Codec ℕ ℕ
 dimension = guarded (ue7 32) notZero 9 atOwn
 
--- ---- 4 and 5: the extension block
+-- ---- items 4 and 5: the extension block
 
 unfoldable pub period : Codec ℕ ℕ
 period = guarded (ue7 16) notZero 12 atOwn
@@ -85,8 +86,8 @@ unfoldable pub loopNumbers : Exact ℕ (ℕ × (ℕ × (ℕ × List ℕ)))
 loopNumbers = thenRest (ue7 16) λ _. thenRest period λ _. thenRest period λ _. rest Byte
 
 -- a payload is kept as its bytes; a tag 5 payload must be readable
-unfoldable pub payload : Bool → Exact ℕ (List ℕ)
-payload isLoop = select isLoop (verbatim loopNumbers) (rest Byte)
+unfoldable pub payload : (animation : Bool) → Exact ℕ (List ℕ)
+payload animation = select animation (verbatim loopNumbers) (rest Byte)
 
 -- `seen`: an entry with tag 5 stands before it
 unfoldable pub extension : Bool → Codec ℕ Extension
@@ -115,7 +116,7 @@ unfoldable pub loopOf : List Extension → Loop
 loopOf [] = noLoop
 loopOf (e ∷ es) = select (isLoop e) (loopIn (e .payload)) (loopOf es)
 
--- ---- 6: HEVC headers
+-- ---- item 6: HEVC headers
 
 abbrev pub oneBit : Codec Bool Bool
 oneBit = mapped (unsigned 1) (λ v. eqb v 1) bit
@@ -273,7 +274,7 @@ header depth =
 unfoldable pub alphaHeader : Flags → Codec ℕ Header
 alphaHeader f = select (hasAlpha f) (header (bitDepth f)) (absent zeroHeader)
 
--- 6 and 7
+-- items 6 and 7
 unfoldable pub body : Flags → Exact ℕ (Header × (Header × List ℕ))
 body f = thenRest (alphaHeader f) λ _. thenRest (header (bitDepth f)) λ _. rest Byte
 

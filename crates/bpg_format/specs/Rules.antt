@@ -56,10 +56,11 @@ pub record ForbiddenBits (h : Header) : Type 0 where
   pub high-precision-offsets : getD (h .«range_flags») 6 false ≡ false
   pub cabac-bypass-alignment : getD (h .«range_flags») 8 false ≡ false
 
--- refusal 15: a field has a code. Refusal 19: an absent field is zero
+-- refusal 15: a ue(v) field has a code
 abbrev pub Coded : ℕ → Type 0
 Coded v = v < 2 ^ 32 - 1
 
+-- absent fields are zero (refusal 19): the PCM fields, and those of the SPS extension
 pub record NoPcm (h : Header) : Type 0 where
   pub luma-depth : h .«pcm_sample_bit_depth_luma_minus1» ≡ 0
   pub chroma-depth : h .«pcm_sample_bit_depth_chroma_minus1» ≡ 0
@@ -91,7 +92,7 @@ pub record HeaderRules (depth : ℕ) (h : Header) : Type 0 where
 
 -- ---- the extension block
 
--- 5. Loop count, period numerator, period denominator, each ue7(16), both period numbers not 0, then dummy bytes
+-- item 5: loop count, period numerator, period denominator, each ue7(16), both period numbers not 0 (refusal 12), then dummy bytes
 pub record LoopPayload (l : List ℕ) (p : Loop) (dummy : List ℕ) : Type 0 where
   pub is : l ≡ ue7Bytes (p .count) ++ (ue7Bytes (p .periodNum) ++ (ue7Bytes (p .periodDen) ++ dummy))
   pub count : p .count < 2 ^ 16
@@ -114,7 +115,7 @@ abbrev pub hasLoop : List Extension → Bool
 hasLoop [] = false
 hasLoop (e ∷ es) = isLoop e || hasLoop es
 
--- at most one with tag 5
+-- at most one with tag 5 (refusal 13)
 abbrev pub OneLoop : List Extension → Type 0
 OneLoop [] = Unit {0}
 OneLoop (e ∷ es) = (isLoop e ≡ true → hasLoop es ≡ false) × OneLoop es
@@ -125,23 +126,28 @@ noLoop = record { count = 0; periodNum = 0; periodDen = 0 }
 -- ---- the file
 
 pub record Rules (c : Content) : Type 0 where
+  -- refusals 4, 5 and 6
   pub pixel-format : c .flags .pixelFormat ≤ 5
   pub bit-depth : c .flags .bitDepthMinus8 ≤ 6
   pub color-space : c .flags .colorSpace ≤ 4
   pub gray : c .flags .pixelFormat ≡ 0 → c .flags .colorSpace ≡ 0
+  -- 8 and 9
   pub width : c .width < 2 ^ 32
   pub width-not-zero : c .width ≢ 0
   pub height : c .height < 2 ^ 32
   pub height-not-zero : c .height ≢ 0
+  -- the extension block: 11, 12, 13, 14
   pub absent-block : c .flags .extensionPresent ≡ false → c .extensions ≡ []
   pub entry-limit : length (c .extensions) ≤ maxEntries
   pub entries : All (ExtensionRules (c .loop)) (c .extensions)
   pub one-loop : OneLoop (c .extensions)
   pub no-loop : hasLoop (c .extensions) ≡ false → c .loop ≡ noLoop
   pub animated : c .flags .animation ≡ true → hasLoop (c .extensions) ≡ true
+  -- the headers: 15, 16, 17
   pub no-alpha : hasAlpha (c .flags) ≡ false → c .alphaHeader ≡ zeroHeader
   pub alpha-header : hasAlpha (c .flags) ≡ true → HeaderRules (bitDepth (c .flags)) (c .alphaHeader)
   pub color-header : HeaderRules (bitDepth (c .flags)) (c .colorHeader)
+  -- the data, and the size of the file (1)
   pub data-bytes : All Byte (c .hevcData)
   pub size : length (fileOf c) ≤ maxFile
 

@@ -10,19 +10,19 @@ use Rattle.bpg_numbers.specs.BitNumbers.{expGolombBits}
 use Rattle.bpg_format.specs.declared.record.Header.{Header}
 use Rattle.bpg_format.specs.Content.{Flags, Extension, Content, hasAlpha}
 
--- 1. Magic
+-- item 1: magic
 abbrev pub magic : List ℕ
 magic = 0x42 ∷ 0x50 ∷ 0x47 ∷ 0xFB ∷ []
 
--- 2. Byte 4: pixel format 3 bits, alpha1 1, bit depth minus 8 4
+-- item 2, byte 4: pixel format 3 bits, alpha1 1, bit depth minus 8 4
 abbrev pub byte4 : Flags → ℕ
 byte4 f = f .pixelFormat * 32 + bit (f .alpha1) * 16 + f .bitDepthMinus8
 
--- Byte 5: colour space 4, extension flag, alpha2, limited range, animation
+-- item 2, byte 5: colour space 4, extension flag, alpha2, limited range, animation
 abbrev pub byte5 : Flags → ℕ
 byte5 f = f .colorSpace * 16 + bit (f .extensionPresent) * 8 + bit (f .alpha2) * 4 + bit (f .limitedRange) * 2 + bit (f .animation)
 
--- 4. An entry: tag, length, payload; and the entries of the block
+-- item 4, an entry: tag, length, payload; and the entries of the block
 abbrev pub extensionBytes : Extension → List ℕ
 extensionBytes e = ue7Bytes (e .tag) ++ (ue7Bytes (length (e .payload)) ++ e .payload)
 
@@ -30,11 +30,11 @@ abbrev pub blockBytes : List Extension → List ℕ
 blockBytes [] = []
 blockBytes (e ∷ es) = extensionBytes e ++ blockBytes es
 
--- with the extension flag the extension length and the block
+-- items 3 and 4: with the extension flag the extension length and the block
 unfoldable pub extensionPart : Bool → List Extension → List ℕ
 extensionPart present es = select present (ue7Bytes (length (blockBytes es)) ++ blockBytes es) []
 
--- 6. The fields of a HEVC header, in the specification's order
+-- item 6: the fields of a HEVC header, in the specification's order
 abbrev pub pcmBits : Header → List Bool
 pcmBits h =
     bits 4 (h .«pcm_sample_bit_depth_luma_minus1»)
@@ -65,7 +65,7 @@ headerBits h =
 unfoldable pub headerBytes : Header → List ℕ
 headerBytes h = ue7Bytes (length (padded (headerBits h))) ++ padded (headerBits h)
 
--- 6 and 7, which the data length counts: the alpha plane's header first, the colour's, and the data
+-- items 6 and 7, which the data length counts: the alpha plane's header first, the colour's, and the data
 unfoldable pub bodyBytes : Content → List ℕ
 bodyBytes c = select (hasAlpha (c .flags)) (headerBytes (c .alphaHeader)) [] ++ (headerBytes (c .colorHeader) ++ c .hevcData)
 

@@ -23,7 +23,7 @@ use Rattle.bpg_format.specs.Rules.{isLoop, hasLoop, noLoop, Rules}
 use Rattle.bpg_format.specs.FileCodec.{colorSpaceAllowed, notZero, loopNumbers, loopFrom, noForbiddenBit, hevcAllowed}
 use Rattle.bpg_format.specs.Records.{usedEntries, contentOf}
 
--- ---- 18: a range outside the source
+-- ---- refusal 18: a range outside the source
 
 abbrev pub inSource : List ℕ → Range → Bool
 inSource source r = leb (r .start + r .length) (length source)
@@ -35,7 +35,7 @@ entriesInSource source (e ∷ es) = inSource source (e .payload) && entriesInSou
 unfoldable pub rangesInSource : List ℕ → Record → Bool
 rangesInSource source r = entriesInSource source (usedEntries r) && inSource source (r .«data»)
 
--- ---- 19: unused or absent field not zero, presence flags that contradict
+-- ---- refusal 19: unused or absent field not zero, presence flags that contradict
 
 abbrev pub isZero : Entry → Bool
 isZero e = eqb (e .tag) 0 && (eqb (e .payload .start) 0 && eqb (e .payload .length) 0)

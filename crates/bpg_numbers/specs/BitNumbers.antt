@@ -11,7 +11,7 @@ use Rattle.bpg_codec.specs.Outcome.{Outcome, ok, error, _>>=_, guard}
 use Rattle.bpg_codec.specs.Codec.{Codec}
 use Rattle.bpg_codec.specs.Bits.{number, bits, zeros, unpack}
 
--- the bits of a region, of which a position of 64 bits can name those of 2^60 bytes
+-- the bits of a region, or of its first 2^60 bytes where it is longer: an offset in bits is a number of 64 bits
 abbrev pub regionBits : List ℕ → List Bool
 regionBits region = unpack (take (2 ^ 60) region)
 

@@ -7,7 +7,8 @@ use Rattle.bpg_codec.specs.Select.{select}
 use Rattle.bpg_codec.specs.Outcome.{Outcome, ok, error, _>>=_, guard}
 use Rattle.bpg_codec.specs.Codec.{Codec}
 
--- the groups of w, each with its top bit, and none of 0; a group fewer each time, so w of them are enough
+-- the 7-bit groups of w, the high one first, each with its top bit set; 0 has no group. Each step leaves a smaller number, so `most` = w is
+-- enough
 unfoldable pub groups : (most w : ℕ) → List ℕ
 groups zero w = []
 groups (suc k) zero = []

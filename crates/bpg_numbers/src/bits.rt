@@ -12,7 +12,7 @@ ghost use Rattle.bpg_codec.specs.Bits.{bit as bitOf, unpack};
 ghost use Rattle.bpg_numbers.specs.BitNumbers.{regionBits, unsigned};
 ghost use Rattle.bpg_numbers.specs.Answers.{bitOutcome};
 
-// A number and the position after it, or that the region does not hold one.
+// A number and the position after it, or that the region does not hold one (for ue(v): also that z is above 31).
 pub enum BitNumber {
     Value(u32, BitPos),
     Missing,
