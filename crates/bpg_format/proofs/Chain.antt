@@ -12,7 +12,7 @@ use Rattle.bpg_codec.proofs.Outcome.{bind-assoc}
 use Rattle.bpg_format.specs.Zero.{zeroHeader}
 use Rattle.bpg_format.specs.Content.{Flags, hasAlpha, bitDepth}
 use Rattle.bpg_format.specs.FileCodec.{flags, dimension, period, loopNumbers, payload, extension, seenAfter, extensions, block, optional, sizeFields, pcmFields, spsFields, fieldSequence, headerFields, header, alphaHeader, body, parts, withLoop, file}
-use Rattle.bpg_format.specs.Read.{readLoop, readEntries, readBlock, readSizes, readPcm, readSps, readFields, readHeader, readAlphaHeader, readContent}
+use Rattle.bpg_format.specs.Read.{readLoop, readEntry, readEntries, readBlock, readSizes, readPcm, readSps, readFields, readHeader, readAlphaHeader, readContent}
 
 loop-chain : (i p : ℕ) (l : List ℕ) → verbatim loopNumbers .decode i p l ≡ readLoop p l
 unfolding verbatim loopNumbers thenRest period guarded rest readLoop
@@ -23,18 +23,17 @@ unfolding payload select rest
 payload-chain true i p l = loop-chain i p l
 payload-chain false i p l = refl
 
-entry-chain : (k : ℕ) (seen : Bool) (p x : ℕ) (l : List ℕ)
-    → ((seen : Bool) (p : ℕ) (l : List ℕ) → decodeEach extension seenAfter 11 k seen p l ≡ readEntries k seen p l)
-    → decodeEach extension seenAfter 11 (suc k) seen p (x ∷ l) ≡ readEntries (suc k) seen p (x ∷ l)
-unfolding extension mapped sequence sized guardedRegion readEntries
-entry-chain k seen p x l ih = simp (bind-assoc, payload-chain, ih)
+-- at its own offset: an entry is an item of its own
+pub entry-chain : (seen : Bool) (p : ℕ) (l : List ℕ) → extension seen .decode p p l ≡ readEntry seen p l
+unfolding extension mapped sequence sized guardedRegion readEntry
+entry-chain seen p l = simp (bind-assoc, payload-chain)
 
-entries-chain : (k : ℕ) (seen : Bool) (p : ℕ) (l : List ℕ) → decodeEach extension seenAfter 11 k seen p l ≡ readEntries k seen p l
+pub entries-chain : (k : ℕ) (seen : Bool) (p : ℕ) (l : List ℕ) → decodeEach extension seenAfter 11 k seen p l ≡ readEntries k seen p l
 unfolding readEntries
 entries-chain zero seen p [] = refl
 entries-chain zero seen p (x ∷ l) = refl
 entries-chain (suc k) seen p [] = refl
-entries-chain (suc k) seen p (x ∷ l) = entry-chain k seen p x l (entries-chain k)
+entries-chain (suc k) seen p (x ∷ l) = simp (entry-chain, entries-chain k)
 
 pub block-chain : (present : Bool) (i p : ℕ) (l : List ℕ) → block present .decode i p l ≡ readBlock present p l
 unfolding block select readBlock sized absent extensions repeated

@@ -14,7 +14,7 @@ use Rattle.bpg_format.specs.Limits.{maxEntries, maxFile}
 use Rattle.bpg_format.specs.declared.record.Header.{Header}
 use Rattle.bpg_format.specs.Zero.{zeroHeader}
 use Rattle.bpg_format.specs.Content.{Flags, Extension, Content, hasAlpha, bitDepth}
-use Rattle.bpg_format.specs.Rules.{hasLoop}
+use Rattle.bpg_format.specs.Rules.{isLoop, hasLoop}
 use Rattle.bpg_format.specs.FileCodec.{readFlags, notZero, loopOf, SizeFields, PcmFields, noPcm, noSps, headerFrom, noForbiddenBit, hevcAllowed, countsBody}
 
 -- the number at p: 2, 7 or 8 at p
@@ -31,19 +31,25 @@ readLoop p l =
     guard (notZero (den .0)) 12 (num .1) >>= λ _.
     ok l
 
--- item 4, per entry: 11, tag, length, payload fits, 13, its numbers
+-- item 4, per entry: tag, length, payload fits, 13, its numbers; `seen`: an entry with tag 5 stands before it
+unfoldable pub readEntry : (seen : Bool) (p : ℕ) → List ℕ → Outcome (Extension × ℕ × List ℕ)
+readEntry seen p l =
+    number 32 p l >>= λ tag.
+    number 32 (tag .1) (tag .2) >>= λ size.
+    guard (leb (size .0) (length (size .2))) 2 (tag .1) >>= λ _.
+    guard (not (seen && eqb (tag .0) 5)) 13 p >>= λ _.
+    select (eqb (tag .0) 5) (readLoop (size .1) (take (size .0) (size .2))) (ok (take (size .0) (size .2))) >>= λ payload.
+    ok (record { tag = tag .0; payload = payload }, size .1 + size .0, drop (size .0) (size .2))
+
+-- until the block is used up; one entry too many is 11, before it is looked at
 unfoldable pub readEntries : (most : ℕ) (seen : Bool) (p : ℕ) → List ℕ → Outcome (List Extension)
 readEntries zero seen p [] = ok []
 readEntries zero seen p (x ∷ l) = error 11 p
 readEntries (suc most) seen p [] = ok []
 readEntries (suc most) seen p (x ∷ l) =
-    number 32 p (x ∷ l) >>= λ tag.
-    number 32 (tag .1) (tag .2) >>= λ size.
-    guard (leb (size .0) (length (size .2))) 2 (tag .1) >>= λ _.
-    guard (not (seen && eqb (tag .0) 5)) 13 p >>= λ _.
-    select (eqb (tag .0) 5) (readLoop (size .1) (take (size .0) (size .2))) (ok (take (size .0) (size .2))) >>= λ payload.
-    readEntries most (seen || eqb (tag .0) 5) (size .1 + size .0) (drop (size .0) (size .2)) >>= λ es.
-    ok (record { tag = tag .0; payload = payload } ∷ es)
+    readEntry seen p (x ∷ l) >>= λ e.
+    readEntries most (seen || isLoop (e .0)) (e .1) (e .2) >>= λ es.
+    ok (e .0 ∷ es)
 
 -- with the extension flag: its length, the block fits, the entries
 unfoldable pub readBlock : (present : Bool) (p : ℕ) → List ℕ → Outcome (List Extension × ℕ × List ℕ)
