@@ -14,7 +14,7 @@ use Rattle.bpg_format.specs.Content.{Flags, hasAlpha, bitDepth}
 use Rattle.bpg_format.specs.FileCodec.{flags, dimension, period, loopNumbers, payload, extension, seenAfter, extensions, block, optional, sizeFields, pcmFields, spsFields, fieldSequence, headerFields, header, alphaHeader, body, parts, withLoop, file}
 use Rattle.bpg_format.specs.Read.{readLoop, readEntry, readEntries, readBlock, readSizes, readPcm, readSps, readFields, readHeader, readAlphaHeader, readContent}
 
-loop-chain : (i p : ℕ) (l : List ℕ) → verbatim loopNumbers .decode i p l ≡ readLoop p l
+pub loop-chain : (i p : ℕ) (l : List ℕ) → verbatim loopNumbers .decode i p l ≡ readLoop p l
 unfolding verbatim loopNumbers thenRest period guarded rest readLoop
 loop-chain i p l = simp bind-assoc
 

@@ -25,7 +25,7 @@ use Rattle.bpg_format.specs.FileCodec.{flagsOf, colorSpaceAllowed, readF
 use Rattle.bpg_format.specs.Read.{readContent, ReadingStatus}
 use Rattle.bpg_format.proofs.Chain.{content-chain}
 
-abbrev Numbered : (status offset : ℕ) → Type 0
+abbrev pub Numbered : (status offset : ℕ) → Type 0
 Numbered s o = ReadingStatus s
 
 abbrev C : {S A : Type 0} → Codec S A → Type 0
@@ -52,7 +52,7 @@ unfolding payload select
 payload-refuses true = verbatim-refuses Numbered (loop-refuses Numbered (λ _. omega arith) (λ _. omega arith) (λ _. omega arith) (λ _. omega arith))
 payload-refuses false = rest-refuses Numbered Byte
 
-extension-refuses : (seen : Bool) → C (extension seen)
+pub extension-refuses : (seen : Bool) → CodecRefuses Numbered (extension seen)
 unfolding extension
 extension-refuses seen =
     mapped-refuses Numbered _ _

@@ -4,3 +4,4 @@ pub mod Ue7Laws
 pub mod BitNumberLaws
 pub mod BitBufferLaws
 pub mod Refusals
+pub mod Advances

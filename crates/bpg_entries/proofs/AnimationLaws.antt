@@ -1,0 +1,72 @@
+-- Reading a tag 5 payload, by what each of its numbers is read as. Assumes nothing.
+use mathlib.Core.Path.{_≡_, _∙_}
+use mathlib.Core.Logic.{_≢_}
+use mathlib.Core.List.{List}
+use Prim.Native.Nat.{ℕ, _^_, _<_}
+use lib.ListN.{drop}
+use borrow.Author.Tests.{eq-eqb, ne-eqb}
+use Rattle.bpg_codec.specs.Outcome.{ok, error, _>>=_, located}
+use Rattle.bpg_codec.specs.Parts.{guarded}
+use Rattle.bpg_codec.specs.Regions.{thenRest, rest}
+use Rattle.bpg_codec.specs.Codec.{atOwn}
+use Rattle.bpg_codec.proofs.Outcome.{unbind, unguard, bind-assoc}
+use Rattle.bpg_codec.proofs.Positions.{Advances, guarded-advances}
+use Rattle.bpg_numbers.specs.Ue7.{ue7}
+use Rattle.bpg_numbers.proofs.Advances.{ue7-advances, ue7-limit}
+use Rattle.bpg_format.specs.FileCodec.{notZero, period, loopNumbers}
+use Rattle.bpg_entries.specs.declared.animation.Animation.{Animation}
+use Rattle.bpg_entries.specs.Animations.{refusedAnimation, animationAnswer}
+
+pub period-advances : Advances period
+unfolding period
+period-advances = guarded-advances (ue7-advances 16) notZero 12 atOwn
+
+module _ (region : List ℕ) (p : ℕ) where
+  pub period-refused : (s o : ℕ) → ue7 16 .decode p p (drop p region) ≡ error s o → error s o ≡ located (period .decode p p (drop p region))
+  unfolding period guarded
+  period-refused s o e = rw e
+
+  pub period-zero : (v q : ℕ) → ue7 16 .decode p p (drop p region) ≡ ok (v, q, drop q region) → v ≡ 0 → error 12 p ≡ located (period .decode p p (drop p region))
+  unfolding period guarded
+  period-zero v q e z = rw (e, eq-eqb v 0 z)
+
+  pub period-value : (v q : ℕ) → ue7 16 .decode p p (drop p region) ≡ ok (v, q, drop q region) → v ≢ 0 → ok (v, q) ≡ located (period .decode p p (drop p region))
+  unfolding period guarded
+  period-value v q e z = rw (e, ne-eqb v 0 z)
+
+  pub period-limit : (v q : ℕ) → period .decode p p (drop p region) ≡ ok (v, q, drop q region) → v < 2 ^ 16
+  unfolding period guarded
+  period-limit v q e =
+      unbind (ue7 16 .decode p p (drop p region)) _ e λ x e1 e2.
+      unguard (notZero (x .0)) 12 p (ok x) e2 λ _ e3. ue7-limit 16 p p (drop p region) v q (drop q region) (e1 ∙ e3)
+
+-- ---- the three numbers
+
+abbrev answer : List ℕ → ℕ → Animation
+answer region p = animationAnswer (loopNumbers .decode p p (drop p region))
+
+-- each number is an item of its own
+as-chain : (region : List ℕ) (p : ℕ) → answer region p
+    ≡ animationAnswer
+    (ue7 16 .decode p p (drop p region) >>= λ x.
+    period .decode (x .1) (x .1) (x .2) >>= λ y.
+    period .decode (y .1) (y .1) (y .2) >>= λ z.
+    ok (x .0, (y .0, (z .0, z .2))))
+unfolding loopNumbers thenRest rest period guarded
+as-chain region p = simp bind-assoc
+
+module _ (region : List ℕ) (p : ℕ) where
+  pub count-refused : (s o : ℕ) → ue7 16 .decode p p (drop p region) ≡ error s o → refusedAnimation s o ≡ answer region p
+  count-refused s o e = rw (as-chain, e)
+
+  module _ (count q : ℕ) (c : ue7 16 .decode p p (drop p region) ≡ ok (count, q, drop q region)) where
+    pub num-refused : (s o : ℕ) → period .decode q q (drop q region) ≡ error s o → refusedAnimation s o ≡ answer region p
+    num-refused s o e = rw (as-chain, c, e)
+
+    module _ (num r : ℕ) (n : period .decode q q (drop q region) ≡ ok (num, r, drop r region)) where
+      pub den-refused : (s o : ℕ) → period .decode r r (drop r region) ≡ error s o → refusedAnimation s o ≡ answer region p
+      den-refused s o e = rw (as-chain, c, n, e)
+
+      pub all-read : (den t : ℕ) → period .decode r r (drop r region) ≡ ok (den, t, drop t region)
+          → record { status = 0; offset = 0; «loop_count» = count; «frame_period_num» = num; «frame_period_den» = den } ≡ answer region p
+      all-read den t e = rw (as-chain, c, n, e)

@@ -1,0 +1,162 @@
+-- `animation::read` meets its contract: each number is the next one's start, and a refusal is passed on. Assumes nothing.
+use mathlib.Core.Path.{_≡_, _∙_}
+use mathlib.Core.List.{List}
+use Prim.Native.Nat.{ℕ}
+use native.Mathlib.Omega.{arith}
+use lib.ListN.{drop}
+use borrow.Author.Needs.{needs}
+use Rattle.bpg_codec.specs.Outcome.{ok}
+use Rattle.bpg_numbers.specs.Ue7.{ue7}
+use Rattle.bpg_numbers.proofs.Advances.{ue7-advances, ue7-limit}
+use Rattle.bpg_format.specs.FileCodec.{period}
+use Rattle.bpg_entries.proofs.Numbers.{value-read, refusal-read}
+use Rattle.bpg_entries.proofs.AnimationLaws.{period-advances, period-limit, count-refused, num-refused, den-refused, all-read}
+use Rattle.bpg_entries.proofs.animation.read.Statement.{statement}
+use Rattle.bpg_entries.proofs.animation.read.Tie as tie
+
+read-requires : tie.Need-read-requires
+read-requires c κs = search needs
+
+enum-known-status : tie.Need-enum-known-status
+enum-known-status c = search needs
+
+refused-requires : tie.Need-refused-requires
+refused-requires c κs = search needs
+
+enum-known-count : tie.Need-enum-known-count
+enum-known-count c = search needs
+
+period-number-requires : tie.Need-period-number-requires
+period-number-requires c κs = search needs
+
+enum-known-status-2 : tie.Need-enum-known-status-2
+enum-known-status-2 c = search needs
+
+refused-requires-2 : tie.Need-refused-requires-2
+refused-requires-2 c κs = search needs
+
+enum-known-num : tie.Need-enum-known-num
+enum-known-num c = search needs
+
+period-number-requires-2 : tie.Need-period-number-requires-2
+period-number-requires-2 c κs = search needs
+
+enum-known-status-3 : tie.Need-enum-known-status-3
+enum-known-status-3 c = search needs
+
+refused-requires-3 : tie.Need-refused-requires-3
+refused-requires-3 c κs = search needs
+
+enum-known-den : tie.Need-enum-known-den
+enum-known-den c = search needs
+
+-- the loop count was read
+module _ (c : tie.After-known-told2) where
+  abbrev region : List ℕ
+  region = c .before .before .before .before .before .args .region .now
+
+  abbrev at : ℕ
+  at = c .before .before .before .before .before .args .at .0
+
+  abbrev count : ℕ
+  count = c .before .count .given .0 .0
+
+  abbrev after : ℕ
+  after = c .before .count .given .0 .1 .0 .0
+
+  count-is : ue7 16 .decode at at (drop at region) ≡ ok (count, after, drop after region)
+  count-is = let r = c .before .before .before in value-read (ue7-advances 16) region at (r .read .result) (r .read .ensures) _ _ (c .before .count .given .1)
+
+-- and the period's numerator
+module _ (c : tie.After-known-told4) where
+  abbrev first : tie.After-known-told2
+  first = c .before .before .before .before
+
+  abbrev num : ℕ
+  num = c .before .num .given .0 .0
+
+  abbrev after-num : ℕ
+  after-num = c .before .num .given .0 .1 .0 .0
+
+  num-is : period .decode (after first) (after first) (drop (after first) (region first)) ≡ ok (num, after-num, drop after-num (region first))
+  num-is =
+      let r = c .before .before .before in
+      value-read period-advances (region first) (after first) (r .period-number .result) (r .period-number .ensures) _ _ (c .before .num .given .1)
+
+-- and its denominator
+module _ (c : tie.After-known-told6) where
+  abbrev second : tie.After-known-told4
+  second = c .before .before .before .before
+
+  abbrev den : ℕ
+  den = c .before .den .given .0 .0
+
+  abbrev after-den : ℕ
+  after-den = c .before .den .given .0 .1 .0 .0
+
+  den-is : period .decode (after-num second) (after-num second) (drop (after-num second) (region (first second)))
+      ≡ ok (den, after-den, drop after-den (region (first second)))
+  den-is =
+      let r = c .before .before .before in
+      value-read period-advances (region (first second)) (after-num second) (r .period-number2 .result) (r .period-number2 .ensures) _ _ (c .before .den .given .1)
+
+cast-t21 : tie.Need-cast-t21
+cast-t21 c = let a = first (second c) in omega (arith, ue7-limit 16 (at a) (at a) _ _ (after a) _ (count-is a))
+
+cast-t22 : tie.Need-cast-t22
+cast-t22 c = omega (arith, period-limit _ _ _ (after-num (second c)) (num-is (second c)))
+
+cast-t23 : tie.Need-cast-t23
+cast-t23 c = omega (arith, period-limit _ _ _ (after-den c) (den-is c))
+
+returns : tie.Need-returns
+returns c =
+    let r = c .before .before .before .before in
+    c .refused .ensures ∙ count-refused _ _ _ _ (refusal-read (ue7-advances 16) _ _ (r .read .result) (r .read .ensures) _ _ (c .before .before .status .given .1))
+
+returns-2 : tie.Need-returns-2
+returns-2 c =
+    let r = c .before .before .before .before in
+    let a = r .before in
+    c .refused2 .ensures
+    ∙ num-refused (region a) (at a) (count a) (after a) (count-is a) _ _
+    (refusal-read period-advances _ _ (r .period-number .result) (r .period-number .ensures) _ _ (c .before .before .status2 .given .1))
+
+returns-3 : tie.Need-returns-3
+returns-3 c =
+    let r = c .before .before .before .before in
+    let b = r .before in
+    let a = first b in
+    c .refused3 .ensures
+    ∙ den-refused (region a) (at a) (count a) (after a) (count-is a) (num b) (after-num b) (num-is b) _ _
+    (refusal-read period-advances _ _ (r .period-number2 .result) (r .period-number2 .ensures) _ _ (c .before .before .status3 .given .1))
+
+returns-4 : tie.Need-returns-4
+returns-4 c =
+    let b = second c in
+    let a = first b in
+    all-read (region a) (at a) (count a) (after a) (count-is a) (num b) (after-num b) (num-is b) (den c) (after-den c) (den-is c)
+
+pub read-spec : {M : Type 1} → statement M
+read-spec =
+    tie.close
+    (tie.spec
+    read-requires
+    enum-known-status
+    refused-requires
+    enum-known-count
+    period-number-requires
+    enum-known-status-2
+    refused-requires-2
+    enum-known-num
+    period-number-requires-2
+    enum-known-status-3
+    refused-requires-3
+    enum-known-den
+    cast-t21
+    cast-t22
+    cast-t23
+    returns
+    returns-2
+    returns-3
+    returns-4)

@@ -1,0 +1,121 @@
+-- `entry::read` meets its contract: the two numbers, then `with_size`. Assumes nothing.
+use mathlib.Core.Path.{_≡_, ap, _∙_}
+use mathlib.Core.List.{List}
+use Prim.Native.Nat.{ℕ, _≤_}
+use native.Mathlib.Omega.{arith}
+use lib.ListN.{length, drop}
+use borrow.Author.Needs.{needs}
+use Rattle.bpg_codec.specs.Outcome.{ok}
+use Rattle.bpg_codec.proofs.Positions.{within}
+use Rattle.bpg_numbers.specs.Ue7.{ue7}
+use Rattle.bpg_numbers.proofs.Advances.{ue7-advances}
+use Rattle.bpg_entries.specs.Entries.{stepAnswer}
+use Rattle.bpg_entries.proofs.Numbers.{value-read, refusal-read}
+use Rattle.bpg_entries.proofs.EntryLaws.{tag-refused, size-refused, both-read}
+use Rattle.bpg_entries.proofs.entry.read.Statement.{statement}
+use Rattle.bpg_entries.proofs.entry.read.Tie as tie
+
+read-requires : tie.Need-read-requires
+read-requires c κs = search needs
+
+enum-known-status : tie.Need-enum-known-status
+enum-known-status c = search needs
+
+refused-requires : tie.Need-refused-requires
+refused-requires c κs = search needs
+
+enum-known-tag : tie.Need-enum-known-tag
+enum-known-tag c = search needs
+
+read-requires-2 : tie.Need-read-requires-2
+read-requires-2 c κs = search needs
+
+enum-known-status-2 : tie.Need-enum-known-status-2
+enum-known-status-2 c = search needs
+
+refused-requires-2 : tie.Need-refused-requires-2
+refused-requires-2 c κs = search needs
+
+enum-known-size : tie.Need-enum-known-size
+enum-known-size c = search needs
+
+-- the tag was read
+module _ (c : tie.After-known-told2) where
+  abbrev start : tie.Start
+  start = c .before .before .before .before .before
+
+  abbrev region : List ℕ
+  region = start .args .region .now
+
+  abbrev at : ℕ
+  at = start .args .at .0
+
+  abbrev tag : ℕ
+  tag = c .before .tag .given .0 .0
+
+  abbrev after : ℕ
+  after = c .before .tag .given .0 .1 .0 .0
+
+  tag-is : ue7 32 .decode at at (drop at region) ≡ ok (tag, after, drop after region)
+  tag-is = let r = c .before .before .before in value-read (ue7-advances 32) region at (r .read .result) (r .read .ensures) _ _ (c .before .tag .given .1)
+
+-- and the length
+module _ (c : tie.After-known-told4) where
+  abbrev first : tie.After-known-told2
+  first = c .before .before .before .before
+
+  abbrev size : ℕ
+  size = c .before .size .given .0 .0
+
+  abbrev payload : ℕ
+  payload = c .before .size .given .0 .1 .0 .0
+
+  size-is : ue7 32 .decode (after first) (after first) (drop (after first) (region first)) ≡ ok (size, payload, drop payload (region first))
+  size-is =
+      let r = c .before .before .before in
+      value-read (ue7-advances 32) (region first) (after first) (r .read2 .result) (r .read2 .ensures) _ _ (c .before .size .given .1)
+
+  inside : payload ≤ length (region first)
+  inside =
+      within (ue7-advances 32) (region first) (after first) (after first)
+      (within (ue7-advances 32) (region first) (at first) (at first) (start first .pre .1) (tag first) (after first) _ (tag-is first)) size payload _ size-is
+
+with-size-requires : tie.Need-with-size-requires
+with-size-requires c κs = (start (first c) .pre .0, inside c)
+
+returns : tie.Need-returns
+returns c =
+    let r = c .before .before .before .before in
+    c .refused .ensures
+    ∙ tag-refused _ _ _ _ _ (refusal-read (ue7-advances 32) _ _ (r .read .result) (r .read .ensures) _ _ (c .before .before .status .given .1))
+
+returns-2 : tie.Need-returns-2
+returns-2 c =
+    let r = c .before .before .before .before in
+    let f = r .before in
+    c .refused2 .ensures
+    ∙ size-refused (region f) (at f) _ (tag f) (after f) (tag-is f) _ _
+    (refusal-read (ue7-advances 32) _ _ (r .read2 .result) (r .read2 .ensures) _ _ (c .before .before .status2 .given .1))
+
+returns-3 : tie.Need-returns-3
+returns-3 c =
+    let d = c .before in
+    let f = first d in
+    c .with-size .ensures ∙ ap stepAnswer (both-read (region f) (at f) _ (tag f) (after f) (tag-is f) (size d) (payload d) (size-is d))
+
+pub read-spec : {M : Type 1} → statement M
+read-spec =
+    tie.close
+    (tie.spec
+    read-requires
+    enum-known-status
+    refused-requires
+    enum-known-tag
+    read-requires-2
+    enum-known-status-2
+    refused-requires-2
+    enum-known-size
+    with-size-requires
+    returns
+    returns-2
+    returns-3)

@@ -1,0 +1,58 @@
+-- What reading the entries of a block answers (document 01, "Order of the file", item 4).
+use mathlib.Core.Bool.{true, false}
+use mathlib.Core.List.{List}
+use Prim.Native.Nat.{ℕ, _+_}
+use lib.Dec.{leb, eqb}
+use lib.ListN.{length, drop, set, replicate}
+use Rattle.bpg_codec.specs.Select.{select}
+use Rattle.bpg_codec.specs.Outcome.{Outcome, ok, error, _>>=_, guard}
+use Rattle.bpg_format.specs.Limits.{maxEntries, maxFile}
+use Rattle.bpg_format.specs.Zero.{zeroEntry}
+use Rattle.bpg_format.specs.Content.{Extension}
+use Rattle.bpg_format.specs.Rules.{hasLoop}
+use Rattle.bpg_format.specs.FileCodec.{loopOf}
+use Rattle.bpg_format.specs.Read.{readEntries}
+use Rattle.bpg_format.specs.Records.{entriesAt, padEntries}
+use Rattle.bpg_entries.specs.declared.block.Block.{Block}
+use Rattle.bpg_entries.specs.declared.entry.Step.{Step}
+use Rattle.bpg_entries.specs.Animations.{refusedAnimation, loopAnswer}
+
+abbrev pub refusedBlock : (status offset : ℕ) → Block
+refusedBlock s o =
+    record {
+      status = s;
+      offset = o;
+      «entry_count» = 0;
+      entries = replicate maxEntries zeroEntry;
+      animated = false;
+      animation = refusedAnimation 0 0;
+    }
+
+-- the block with a step's entry, and with its animation where that has tag 5
+unfoldable pub addedBlock : Block → Step → Block
+addedBlock b t =
+    record {
+      status = b .status;
+      offset = b .offset;
+      «entry_count» = b .«entry_count» + 1;
+      entries = set (b .entries) (b .«entry_count») (t .entry);
+      animated = select (eqb (t .entry .tag) 5) true (b .animated);
+      animation = select (eqb (t .entry .tag) 5) (t .animation) (b .animation);
+    }
+
+-- entries of a block whose first stands at p
+abbrev pub blockAnswer : (p : ℕ) → Outcome (List Extension) → Block
+blockAnswer p (ok es) =
+    record {
+      status = 0;
+      offset = 0;
+      «entry_count» = length es;
+      entries = padEntries (entriesAt p es);
+      animated = hasLoop es;
+      animation = loopAnswer (loopOf es);
+    }
+blockAnswer p (error s o) = refusedBlock s o
+
+-- the entries from p to the end of a region, which is no longer than a file
+unfoldable pub entriesIn : List ℕ → (p : ℕ) → Outcome (List Extension)
+entriesIn region p = guard (leb (length region) maxFile) 1 0 >>= λ _. readEntries maxEntries false p (drop p region)

@@ -1,0 +1,81 @@
+// The entries of the extension block.
+use crate::animation;
+use crate::animation::Animation;
+use crate::entry;
+use crate::entry::Step;
+use bpg_format::Entry;
+use bpg_format::MAX_ENTRIES;
+use bpg_format::MAX_FILE;
+use bpg_format::zero_entry;
+use bpg_numbers::BytePos;
+ghost use mathlib.Core.Path.{_≡_};
+ghost use Prim.Native.Nat.{_<_};
+ghost use Rattle.bpg_format.specs.Limits.{maxEntries};
+ghost use Rattle.bpg_entries.specs.Blocks.{refusedBlock, addedBlock, blockAnswer, entriesIn};
+
+// Status 0, the entries, whether one has tag 5, and what it says; or a refusal and zeros.
+pub struct Block {
+    pub status: u8,
+    pub offset: usize,
+    pub entry_count: u32,
+    pub entries: [Entry; MAX_ENTRIES],
+    pub animated: bool,
+    pub animation: Animation,
+}
+
+fn refused(status: u8, offset: usize) -> Block
+    ensures { λ r. ⌜ r ≡ refusedBlock status offset ⌝ }
+{
+    let entry = zero_entry();
+    let animation = animation::refused(0, 0);
+    Block {
+        status,
+        offset,
+        entry_count: 0,
+        entries: [entry; MAX_ENTRIES],
+        animated: false,
+        animation,
+    }
+}
+
+// The block with one more entry.
+fn added(block: Block, step: Step) -> Block
+    requires { ⌜ block .«entry_count» < maxEntries ⌝ }
+    ensures { λ r. ⌜ r ≡ addedBlock block step ⌝ }
+{
+    let mut more = block;
+    let entry = step.entry;
+    let k = more.entry_count as usize;
+    more.entries[k] = entry;
+    more.entry_count += 1;
+    if entry.tag != 5 {
+        return more;
+    }
+    let animation = step.animation;
+    more.animated = true;
+    more.animation = animation;
+    more
+}
+
+// The entries from `at` to the end of the region. A region longer than a file is refused.
+pub fn read(region: &[u8], at: BytePos) -> Block
+    ensures { λ r. ⌜ r ≡ blockAnswer (at .0) (entriesIn (now (region .entry)) (at .0)) ⌝ }
+{
+    if MAX_FILE < region.len() {
+        return refused(1, 0);
+    }
+    let mut block = refused(0, 0);
+    let mut next = at.0;
+    while next < region.len() {
+        if MAX_ENTRIES <= block.entry_count as usize {
+            return refused(11, next);
+        }
+        let step = entry::read(region, BytePos(next), block.animated);
+        if step.status != 0 {
+            return refused(step.status, step.offset);
+        }
+        next = step.next;
+        block = added(block, step);
+    }
+    block
+}
