@@ -1,44 +1,99 @@
--- Decoding at an offset of a region: what is left there is `drop p region`. Assumes nothing.
-use mathlib.Core.Path.{_≡_, refl, ap, _∙_}
-use mathlib.Core.Bool.{Bool}
+-- Decoding at an offset of a region: what is left there is `drop p region`, whatever the tokens are. Assumes nothing.
+use mathlib.Core.Path.{_≡_, refl, sym, ap, _∙_, subst}
+use mathlib.Core.Bool.{Bool, true, false}
 use mathlib.Core.List.{List}
 use Prim.Native.Nat.{ℕ, _+_, _-_, _≤_}
 use native.Mathlib.Omega.{arith}
 use lib.ListN.{length, drop, length-drop}
 use lib.Seq.{drop-drop}
+use Rattle.bpg_codec.specs.Select.{select}
 use Rattle.bpg_codec.specs.Outcome.{Outcome, ok, error, _>>=_, located}
 use Rattle.bpg_codec.specs.Codec.{Codec}
-use Rattle.bpg_codec.specs.Parts.{guarded}
-use Rattle.bpg_codec.proofs.Outcome.{unbind, unguard}
+use Rattle.bpg_codec.specs.Parts.{sequence, mapped, guarded, absent}
+use Rattle.bpg_codec.proofs.Outcome.{ok-injective, unbind, unguard}
 
--- what is left is what stands after the offset that was given, and that lies in the region, whatever the tokens are
+-- r is what is left of l where p has become q
+pub record Advanced {S : Type 0} (p : ℕ) (l : List S) (q : ℕ) (r : List S) : Type 0 where
+  pub forward : p ≤ q
+  pub inside : q ≤ p + length l
+  pub left : r ≡ drop (q - p) l
+
+module _ {S : Type 0} where
+  pub stayed : (p : ℕ) (l : List S) → Advanced p l p l
+  stayed p l = let n : p - p ≡ 0 = omega arith in record { forward = omega arith; inside = omega arith; left = ap (λ (k : ℕ). drop k l) (sym n) }
+
+  pub moved : (p : ℕ) (l : List S) (n : ℕ) → n ≤ length l → Advanced p l (p + n) (drop n l)
+  moved p l n h = let e : p + n - p ≡ n = omega arith in record { forward = omega arith; inside = omega arith; left = ap (λ (k : ℕ). drop k l) (sym e) }
+
+  pub advanced-then : {p q s : ℕ} {l r t : List S} → Advanced p l q r → Advanced q r s t → Advanced p l s t
+  advanced-then {p} {q} {s} {l} a b =
+      let n : q - p + (s - q) ≡ s - p = omega (arith, a .forward, b .forward) in
+      record {
+        forward = omega (arith, a .forward, b .forward);
+        inside = omega (arith, a .forward, a .inside, b .inside, ap length (a .left), length-drop (q - p) l);
+        left = b .left ∙ ap (drop (s - q)) (a .left) ∙ drop-drop (s - q) (q - p) l ∙ ap (λ (k : ℕ). drop k l) n;
+      }
+
 pub record Advances {S A : Type 0} (c : Codec S A) : Type 0 where
-  pub advances : (i p : ℕ) (l : List S) (a : A) (q : ℕ) (r : List S) → c .decode i p l ≡ ok (a, q, r) → (p ≤ q) × (q ≤ p + length l) × (r ≡ drop (q - p) l)
+  pub advances : (i p : ℕ) (l : List S) (x : A × ℕ × List S) → c .decode i p l ≡ ok x → Advanced p l (x .1) (x .2)
 
-relocate : {S A : Type 0} (region : List S) (m : Outcome (A × ℕ × List S)) → ((a : A) (q : ℕ) (r : List S) → m ≡ ok (a, q, r) → r ≡ drop q region)
+-- ---- so the offset says what is left of a region
+
+relocate : {S A : Type 0} (region : List S) (m : Outcome (A × ℕ × List S)) → ((x : A × ℕ × List S) → m ≡ ok x → x .2 ≡ drop (x .1) region)
     → m ≡ (located m >>= λ x. ok (x .0, x .1, drop (x .1) region))
-relocate {S} region (ok x) h = ap (λ (r : List S). ok (x .0, x .1, r)) (h (x .0) (x .1) (x .2) refl)
+relocate {S} region (ok x) h = ap (λ (r : List S). ok (x .0, x .1, r)) (h x refl)
 relocate region (error s o) h = refl
 
+module _ {S A : Type 0} {c : Codec S A} (hc : Advances c) (region : List S) (i p : ℕ) where
+  pub at-offset : c .decode i p (drop p region) ≡ (located (c .decode i p (drop p region)) >>= λ x. ok (x .0, x .1, drop (x .1) region))
+  at-offset =
+      relocate region (c .decode i p (drop p region)) λ x e.
+      let s = hc .advances i p (drop p region) x e in
+      let n : p + (x .1 - p) ≡ x .1 = omega (arith, s .forward) in
+      s .left ∙ drop-drop (x .1 - p) p region ∙ ap (λ (k : ℕ). drop k region) n
+
+  pub within : p ≤ length region → (x : A × ℕ × List S) → c .decode i p (drop p region) ≡ ok x → x .1 ≤ length region
+  within h x e = omega (arith, hc .advances i p (drop p region) x e .inside, length-drop p region)
+
+-- ---- the combinators
+
 module _ {S A : Type 0} {c : Codec S A} (hc : Advances c) where
-  -- so the offset says what is left of a region
-  pub at-offset : (region : List S) (i p : ℕ)
-      → c .decode i p (drop p region) ≡ (located (c .decode i p (drop p region)) >>= λ x. ok (x .0, x .1, drop (x .1) region))
-  at-offset region i p =
-      relocate region (c .decode i p (drop p region)) λ a q r e.
-      let s = hc .advances i p (drop p region) a q r e in
-      let n : p + (q - p) ≡ q = omega (arith, s .0) in
-      s .2 ∙ drop-drop (q - p) p region ∙ ap (λ (k : ℕ). drop k region) n
-
-  pub within : (region : List S) (i p : ℕ) → p ≤ length region → (a : A) (q : ℕ) (r : List S) → c .decode i p (drop p region) ≡ ok (a, q, r)
-      → q ≤ length region
-  within region i p h a q r e = let s = hc .advances i p (drop p region) a q r e in omega (arith, s .1, length-drop p region)
-
   pub guarded-advances : (rule : A → Bool) (status : ℕ) (offset : ℕ → ℕ → ℕ) → Advances (guarded c rule status offset)
   unfolding guarded
   guarded-advances rule status offset =
       record {
-        advances = λ i p l a q r e.
-            unbind (c .decode i p l) _ e λ x e1 e2.
-            unguard (rule (x .0)) status (offset i p) (ok x) e2 λ _ e3. hc .advances i p l a q r (e1 ∙ e3);
+        advances = λ i p l x e.
+            unbind (c .decode i p l) _ e λ y e1 e2.
+            unguard (rule (y .0)) status (offset i p) (ok y) e2 λ _ e3. hc .advances i p l x (e1 ∙ e3);
       }
+
+  pub mapped-advances : {B : Type 0} (to : A → B) (from : B → A) → Advances (mapped c to from)
+  unfolding mapped
+  mapped-advances {B} to from =
+      record {
+        advances = λ i p l x e.
+            unbind (c .decode i p l) _ e λ y e1 e2.
+            subst (λ (z : B × ℕ × List S). Advanced p l (z .1) (z .2)) (ok-injective e2) (hc .advances i p l y e1);
+      }
+
+  pub sequence-advances : {B : Type 0} {d : A → Codec S B} → ((a : A) → Advances (d a)) → Advances (sequence c d)
+  unfolding sequence
+  sequence-advances {B} {d} hd =
+      record {
+        advances = λ i p l x e.
+            unbind (c .decode i p l) _ e λ y e1 e2.
+            unbind (d (y .0) .decode i (y .1) (y .2)) _ e2 λ z e3 e4.
+            subst (λ (w : (A × B) × ℕ × List S). Advanced p l (w .1) (w .2)) (ok-injective e4)
+            (advanced-then (hc .advances i p l y e1) (hd (y .0) .advances i (y .1) (y .2) z e3));
+      }
+
+module _ {S A : Type 0} where
+  pub absent-advances : (a : A) → Advances {S = S} (absent a)
+  unfolding absent
+  absent-advances a =
+      record { advances = λ i p l x e. subst (λ (z : A × ℕ × List S). Advanced p l (z .1) (z .2)) (ok-injective e) (stayed p l) }
+
+  pub select-advances : (b : Bool) (c d : Codec S A) → Advances c → Advances d → Advances (select b c d)
+  unfolding select
+  select-advances true c d hc hd = hc
+  select-advances false c d hc hd = hd

@@ -38,7 +38,7 @@ module _ (region : List ℕ) (p : ℕ) where
   unfolding period guarded
   period-limit v q e =
       unbind (ue7 16 .decode p p (drop p region)) _ e λ x e1 e2.
-      unguard (notZero (x .0)) 12 p (ok x) e2 λ _ e3. ue7-limit 16 p p (drop p region) v q (drop q region) (e1 ∙ e3)
+      unguard (notZero (x .0)) 12 p (ok x) e2 λ _ e3. ue7-limit 16 p p (drop p region) (v, q, drop q region) (e1 ∙ e3)
 
 -- ---- the three numbers
 

@@ -5,3 +5,4 @@ pub mod BitNumberLaws
 pub mod BitBufferLaws
 pub mod Refusals
 pub mod Advances
+pub mod ReadAt

@@ -7,7 +7,7 @@ use borrow.Author.Needs.{needs}
 use Rattle.bpg_codec.specs.Outcome.{ok}
 use Rattle.bpg_numbers.specs.Ue7.{ue7}
 use Rattle.bpg_numbers.proofs.Advances.{ue7-advances}
-use Rattle.bpg_entries.proofs.Numbers.{value-read, refusal-read}
+use Rattle.bpg_numbers.proofs.ReadAt.{value-read, refusal-read}
 use Rattle.bpg_entries.proofs.AnimationLaws.{period-refused, period-zero, period-value}
 use Rattle.bpg_entries.proofs.animation.period_number.Statement.{statement}
 use Rattle.bpg_entries.proofs.animation.period_number.Tie as tie

@@ -9,7 +9,7 @@ use Rattle.bpg_codec.specs.Outcome.{ok}
 use Rattle.bpg_numbers.specs.Ue7.{ue7}
 use Rattle.bpg_numbers.proofs.Advances.{ue7-advances, ue7-limit}
 use Rattle.bpg_format.specs.FileCodec.{period}
-use Rattle.bpg_entries.proofs.Numbers.{value-read, refusal-read}
+use Rattle.bpg_numbers.proofs.ReadAt.{value-read, refusal-read}
 use Rattle.bpg_entries.proofs.AnimationLaws.{period-advances, period-limit, count-refused, num-refused, den-refused, all-read}
 use Rattle.bpg_entries.proofs.animation.read.Statement.{statement}
 use Rattle.bpg_entries.proofs.animation.read.Tie as tie
@@ -101,7 +101,7 @@ module _ (c : tie.After-known-told6) where
       value-read period-advances (region (first second)) (after-num second) (r .period-number2 .result) (r .period-number2 .ensures) _ _ (c .before .den .given .1)
 
 cast-t21 : tie.Need-cast-t21
-cast-t21 c = let a = first (second c) in omega (arith, ue7-limit 16 (at a) (at a) _ _ (after a) _ (count-is a))
+cast-t21 c = let a = first (second c) in omega (arith, ue7-limit 16 (at a) (at a) _ _ (count-is a))
 
 cast-t22 : tie.Need-cast-t22
 cast-t22 c = omega (arith, period-limit _ _ _ (after-num (second c)) (num-is (second c)))

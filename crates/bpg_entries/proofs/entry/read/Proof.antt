@@ -10,7 +10,7 @@ use Rattle.bpg_codec.proofs.Positions.{within}
 use Rattle.bpg_numbers.specs.Ue7.{ue7}
 use Rattle.bpg_numbers.proofs.Advances.{ue7-advances}
 use Rattle.bpg_entries.specs.Entries.{stepAnswer}
-use Rattle.bpg_entries.proofs.Numbers.{value-read, refusal-read}
+use Rattle.bpg_numbers.proofs.ReadAt.{value-read, refusal-read}
 use Rattle.bpg_entries.proofs.EntryLaws.{tag-refused, size-refused, both-read}
 use Rattle.bpg_entries.proofs.entry.read.Statement.{statement}
 use Rattle.bpg_entries.proofs.entry.read.Tie as tie
@@ -78,7 +78,7 @@ module _ (c : tie.After-known-told4) where
   inside : payload ≤ length (region first)
   inside =
       within (ue7-advances 32) (region first) (after first) (after first)
-      (within (ue7-advances 32) (region first) (at first) (at first) (start first .pre .1) (tag first) (after first) _ (tag-is first)) size payload _ size-is
+      (within (ue7-advances 32) (region first) (at first) (at first) (start first .pre .1) _ (tag-is first)) _ size-is
 
 with-size-requires : tie.Need-with-size-requires
 with-size-requires c κs = (start (first c) .pre .0, inside c)
