@@ -6,7 +6,7 @@ use mathlib.Core.List.{List, [], _∷_, _++_, append-assoc, append-nil}
 use Prim.Native.Nat.{ℕ, zero, suc, _+_, _-_, _≤_, _<_}
 use native.Mathlib.Omega.{arith}
 use lib.Dec.{leb, eqb, T}
-use lib.ListN.{length, take, drop, set, replicate, length-append, length-drop, drop-of-length-le}
+use lib.ListN.{length, take, drop, set, length-append, length-drop, drop-of-length-le}
 use lib.Seq.{drop-drop, drop-at}
 use borrow.Author.Tests.{le-leb, lt-leb, eq-eqb, ne-eqb}
 use Rattle.bpg_codec.specs.Select.{select}
@@ -18,11 +18,11 @@ use Rattle.bpg_codec.proofs.Tokens.{all-drop}
 use Rattle.bpg_numbers.specs.Ue7.{ue7, ue7Bytes}
 use Rattle.bpg_format.specs.Limits.{maxEntries, maxFile}
 use Rattle.bpg_format.specs.declared.record.Entry.{Entry}
-use Rattle.bpg_format.specs.Zero.{range, zeroEntry}
-use Rattle.bpg_format.specs.Content.{Extension, Loop}
+use Rattle.bpg_format.specs.Zero.{range}
+use Rattle.bpg_format.specs.Content.{Extension}
 use Rattle.bpg_format.specs.Syntax.{extensionBytes, blockBytes}
-use Rattle.bpg_format.specs.Rules.{isLoop, hasLoop, noLoop}
-use Rattle.bpg_format.specs.FileCodec.{loopOf, loopIn}
+use Rattle.bpg_format.specs.Rules.{isLoop, hasLoop}
+use Rattle.bpg_format.specs.FileCodec.{loopOf}
 use Rattle.bpg_format.specs.Read.{readLoop, readEntry, readEntries}
 use Rattle.bpg_format.specs.Records.{entriesAt, padEntries}
 use Rattle.bpg_format.proofs.FileLaws.{extension-lawful}
@@ -36,89 +36,7 @@ use Rattle.bpg_entries.specs.declared.block.Block.{Block}
 use Rattle.bpg_entries.specs.Animations.{loopAnswer}
 use Rattle.bpg_entries.specs.Entries.{stepAnswer}
 use Rattle.bpg_entries.specs.Blocks.{refusedBlock, addedBlock, blockAnswer, entriesIn}
-
--- ---- one more entry at the end
-
-last : (b : Bool) → (b || false) ≡ select b true false
-unfolding select
-last true = refl
-last false = refl
-
-before : (a b c : Bool) → (a || select b true c) ≡ select b true (a || c)
-unfolding select
-before true true c = refl
-before true false c = refl
-before false true c = refl
-before false false c = refl
-
-or-select : (a b : Bool) → (a || b) ≡ select b true a
-unfolding select
-or-select true true = refl
-or-select true false = refl
-or-select false true = refl
-or-select false false = refl
-
-answer-select : (b : Bool) (p q : Loop) → select b (loopAnswer p) (loopAnswer q) ≡ loopAnswer (select b p q)
-unfolding select
-answer-select true p q = refl
-answer-select false p q = refl
-
-no-loop : (b : Bool) (p : Loop) → select b p noLoop ≡ select b (select b p noLoop) noLoop
-unfolding select
-no-loop true p = refl
-no-loop false p = refl
-
-earlier : (a b c : Bool) → (b ≡ true → (a || c) ≡ false) → (p q r s : Loop) → ((b ≡ true → c ≡ false) → q ≡ select b r s)
-    → select a p q ≡ select b r (select a p s)
-unfolding select
-earlier true true c h p q r s ih = absurd (subst T (h refl) tt)
-earlier true false c h p q r s ih = refl
-earlier false true c h p q r s ih = ih h
-earlier false false c h p q r s ih = ih (λ e. h e)
-
-module _ (e : Extension) where
-  abbrev one : List Extension
-  one = e ∷ []
-
-  entries-snoc : (es : List Extension) (p : ℕ) → entriesAt p (es ++ one) ≡ entriesAt p es ++ entriesAt (p + length (blockBytes es)) one
-  entries-snoc [] p = let n : p ≡ p + 0 = omega arith in ap (λ (k : ℕ). entriesAt k one) n
-  entries-snoc (x ∷ es) p =
-      let tag = ue7Bytes (x .tag) in
-      let size = ue7Bytes (length (x .payload)) in
-      let start = p + length tag + length size in
-      let n1 = length-append (extensionBytes x) (blockBytes es) in
-      let n2 = length-append tag (size ++ x .payload) in
-      let n3 = length-append size (x .payload) in
-      let n : start + length (x .payload) + length (blockBytes es) ≡ p + length (blockBytes (x ∷ es)) = omega arith in
-      ap (λ (l : List Entry). record { tag = x .tag; payload = range start (length (x .payload)) } ∷ l)
-      (entries-snoc es (start + length (x .payload)) ∙ ap (λ (k : ℕ). entriesAt (start + length (x .payload)) es ++ entriesAt k one) n)
-
-  bytes-snoc : (es : List Extension) → length (blockBytes (es ++ one)) ≡ length (blockBytes es) + length (extensionBytes e)
-  bytes-snoc [] = let n = length-append (extensionBytes e) [] in omega arith
-  bytes-snoc (x ∷ es) =
-      let n1 = length-append (extensionBytes x) (blockBytes (es ++ one)) in
-      let n2 = length-append (extensionBytes x) (blockBytes es) in
-      omega (arith, bytes-snoc es)
-
-  has-snoc : (es : List Extension) → hasLoop (es ++ one) ≡ select (isLoop e) true (hasLoop es)
-  has-snoc [] = last (isLoop e)
-  has-snoc (x ∷ es) = rw (has-snoc es) (before (isLoop x) (isLoop e) (hasLoop es))
-
-  -- the last has tag 5 only where none before it has
-  loop-snoc : (es : List Extension) → (isLoop e ≡ true → hasLoop es ≡ false) → loopOf (es ++ one) ≡ select (isLoop e) (loopOf one) (loopOf es)
-  unfolding loopOf
-  loop-snoc [] h = no-loop (isLoop e) (loopIn (e .payload))
-  loop-snoc (x ∷ es) h = earlier (isLoop x) (isLoop e) (hasLoop es) h (loopIn (x .payload)) (loopOf (es ++ one)) (loopOf one) (loopOf es) (loop-snoc es)
-
--- the entry at the end takes the place of the first zero entry
-set-end : (es : List Entry) (x y : Entry) (l : List Entry) → set (es ++ (y ∷ l)) (length es) x ≡ es ++ (x ∷ l)
-set-end [] x y l = refl
-set-end (e ∷ es) x y l = ap (λ (m : List Entry). e ∷ m) (set-end es x y l)
-
-pad-snoc : (es : List Entry) (x : Entry) → length es < maxEntries → set (padEntries es) (length es) x ≡ padEntries (es ++ (x ∷ []))
-pad-snoc es x h =
-    let n : maxEntries - length es ≡ suc (maxEntries - (length es + 1)) = omega arith in
-    rw (length-append, n) (set-end es x zeroEntry (replicate (maxEntries - (length es + 1)) zeroEntry) ∙ sym (append-assoc es (x ∷ []) _))
+use Rattle.bpg_entries.proofs.LastEntry.{or-select, answer-select, entries-snoc, bytes-snoc, has-snoc, loop-snoc, pad-snoc}
 
 -- ---- the reading, one entry at a time
 

@@ -1,4 +1,5 @@
 -- Laws of the readers of the extension block.
 pub mod AnimationLaws
 pub mod EntryLaws
+pub mod LastEntry
 pub mod BlockLaws

@@ -89,7 +89,7 @@ fn with_size(
 }
 
 // The entry at `at`; `seen`: an entry with tag 5 stands before it.
-pub fn read(region: &[u8], at: BytePos, seen: bool) -> Step
+pub(crate) fn read(region: &[u8], at: BytePos, seen: bool) -> Step
     requires { ⌜ count (now region) ≤ maxFile ⌝ }
     requires { ⌜ at .0 ≤ count (now region) ⌝ }
     ensures { λ r. ⌜ r ≡ stepAnswer (readEntry seen (at .0) (drop (at .0) (now (region .entry)))) ⌝ }
