@@ -8,9 +8,9 @@ use lib.ListN.{length, drop, length-drop}
 use lib.Seq.{drop-drop}
 use Rattle.bpg_codec.specs.Select.{select}
 use Rattle.bpg_codec.specs.Outcome.{Outcome, ok, error, _>>=_, located}
-use Rattle.bpg_codec.specs.Codec.{Codec}
+use Rattle.bpg_codec.specs.Codec.{Codec, decodeAt}
 use Rattle.bpg_codec.specs.Parts.{sequence, mapped, guarded, absent}
-use Rattle.bpg_codec.proofs.Outcome.{ok-injective, unbind, unguard}
+use Rattle.bpg_codec.proofs.Outcome.{ok-injective, unbind, unguard, bind-assoc}
 
 -- r is what is left of l where p has become q
 pub record Advanced {S : Type 0} (p : ℕ) (l : List S) (q : ℕ) (r : List S) : Type 0 where
@@ -97,3 +97,50 @@ module _ {S A : Type 0} where
   unfolding select
   select-advances true c d hc hd = hc
   select-advances false c d hc hd = hd
+
+-- ---- decoding at an offset, without what is left
+
+module _ {S : Type 0} (region : List S) where
+  pub sequence-at : {A B : Type 0} {c : Codec S A} → Advances c → (d : A → Codec S B) (i p : ℕ)
+      → decodeAt region (sequence c d) i p ≡ (decodeAt region c i p >>= λ x. decodeAt region (d (x .0)) i (x .1) >>= λ y. ok ((x .0, y .0), y .1))
+  unfolding sequence
+  sequence-at {c} hc d i p = rw (at-offset hc region i p) (simp bind-assoc)
+
+  pub mapped-at : {A B : Type 0} (c : Codec S A) (to : A → B) (from : B → A) (i p : ℕ)
+      → decodeAt region (mapped c to from) i p ≡ (decodeAt region c i p >>= λ x. ok (to (x .0), x .1))
+  unfolding mapped
+  mapped-at c to from i p = simp bind-assoc
+
+  -- two parts read as one, and what follows them
+  module _ {A B C : Type 0} {a : Codec S A} {b : Codec S B} (ha : Advances a) (hb : Advances b) (d : Codec S C) where
+    first : (i p : ℕ) → decodeAt region (sequence a λ _. sequence b λ _. d) i p
+        ≡ (decodeAt region a i p >>= λ x. decodeAt region (sequence b λ _. d) i (x .1) >>= λ y. ok ((x .0, y .0), y .1))
+    first i p = sequence-at ha (λ _. sequence b λ _. d) i p
+
+    second : (i p : ℕ) → decodeAt region (sequence b λ _. d) i p ≡ (decodeAt region b i p >>= λ x. decodeAt region d i (x .1) >>= λ y. ok ((x .0, y .0), y .1))
+    second i p = sequence-at hb (λ _. d) i p
+
+    both : (i p : ℕ) → decodeAt region (sequence a λ _. b) i p ≡ (decodeAt region a i p >>= λ x. decodeAt region b i (x .1) >>= λ y. ok ((x .0, y .0), y .1))
+    both i p = sequence-at ha (λ _. b) i p
+
+    pub pair-then : (i p : ℕ) → decodeAt region (sequence a λ _. sequence b λ _. d) i p
+        ≡ (decodeAt region (sequence a λ _. b) i p >>= λ x. decodeAt region d i (x .1) >>= λ y. ok ((x .0 .0, (x .0 .1, y .0)), y .1))
+    pair-then i p = simp (first, second, both, bind-assoc)
+
+  -- two pairs, and what follows them
+  module _ {A B C D E : Type 0} {a : Codec S A} {b : Codec S B} {c : Codec S C} {d : Codec S D} (ha : Advances a) (hb : Advances b) (hc : Advances c)
+      (hd : Advances d) (e : Codec S E) where
+    outer : (i p : ℕ) → decodeAt region (sequence a λ _. sequence b λ _. sequence c λ _. sequence d λ _. e) i p
+        ≡ (decodeAt region (sequence a λ _. b) i p >>= λ x. decodeAt region (sequence c λ _. sequence d λ _. e) i (x .1) >>= λ y. ok ((x .0 .0, (x .0 .1, y .0)), y .1))
+    outer i p = pair-then ha hb (sequence c λ _. sequence d λ _. e) i p
+
+    inner : (i p : ℕ) → decodeAt region (sequence c λ _. sequence d λ _. e) i p
+        ≡ (decodeAt region (sequence c λ _. d) i p >>= λ x. decodeAt region e i (x .1) >>= λ y. ok ((x .0 .0, (x .0 .1, y .0)), y .1))
+    inner i p = pair-then hc hd e i p
+
+    pub pairs-then : (i p : ℕ) → decodeAt region (sequence a λ _. sequence b λ _. sequence c λ _. sequence d λ _. e) i p
+        ≡ (decodeAt region (sequence a λ _. b) i p >>= λ x.
+        decodeAt region (sequence c λ _. d) i (x .1) >>= λ y.
+        decodeAt region e i (y .1) >>= λ z.
+        ok ((x .0 .0, (x .0 .1, (y .0 .0, (y .0 .1, z .0)))), z .1))
+    pairs-then i p = simp (outer, inner, bind-assoc)

@@ -1,0 +1,58 @@
+-- Each group of fields as a chain of its parts. Assumes nothing.
+use mathlib.Core.Path.{_≡_}
+use mathlib.Core.Bool.{Bool, true, false}
+use mathlib.Core.List.{List}
+use Prim.Native.Nat.{ℕ}
+use lib.Dec.{eqb}
+use Rattle.bpg_codec.specs.Outcome.{ok, _>>=_}
+use Rattle.bpg_codec.specs.Codec.{Codec, decodeAt}
+use Rattle.bpg_codec.proofs.Select.{select-true, select-false}
+use Rattle.bpg_codec.specs.Parts.{absent}
+use Rattle.bpg_codec.specs.Bits.{bit}
+use Rattle.bpg_codec.proofs.Positions.{Advances, mapped-advances, sequence-at, mapped-at, pairs-then}
+use Rattle.bpg_numbers.specs.BitNumbers.{unsigned, expGolomb}
+use Rattle.bpg_numbers.proofs.Advances.{unsigned-advances, expGolomb-advances}
+use Rattle.bpg_format.specs.FileCodec.{oneBit, optional, sizeFields, pcmFields, spsFields}
+use Rattle.bpg_header.specs.Fields.{codePair, depthPair}
+
+pub flag-advances : Advances oneBit
+flag-advances = mapped-advances (unsigned-advances 1) (λ v. eqb v 1) bit
+
+module _ (bits : List Bool) (i p : ℕ) where
+  pub flag-at : decodeAt bits oneBit i p ≡ (decodeAt bits (unsigned 1) i p >>= λ x. ok (eqb (x .0) 1, x .1))
+  flag-at = mapped-at bits (unsigned 1) (λ v. eqb v 1) bit i p
+
+  pub codes-at : decodeAt bits codePair i p ≡ (decodeAt bits expGolomb i p >>= λ x. decodeAt bits expGolomb i (x .1) >>= λ y. ok ((x .0, y .0), y .1))
+  unfolding codePair
+  codes-at = sequence-at bits expGolomb-advances (λ _. expGolomb) i p
+
+  pub depths-at : decodeAt bits depthPair i p ≡ (decodeAt bits (unsigned 4) i p >>= λ x. decodeAt bits (unsigned 4) i (x .1) >>= λ y. ok ((x .0, y .0), y .1))
+  unfolding depthPair
+  depths-at = sequence-at bits (unsigned-advances 4) (λ _. unsigned 4) i p
+
+  pub sizes-at : decodeAt bits sizeFields i p
+      ≡ (decodeAt bits codePair i p >>= λ x.
+      decodeAt bits codePair i (x .1) >>= λ y.
+      decodeAt bits expGolomb i (y .1) >>= λ z.
+      ok ((x .0 .0, (x .0 .1, (y .0 .0, (y .0 .1, z .0)))), z .1))
+  unfolding sizeFields codePair
+  sizes-at = pairs-then bits expGolomb-advances expGolomb-advances expGolomb-advances expGolomb-advances expGolomb i p
+
+  pub pcm-at : decodeAt bits pcmFields i p
+      ≡ (decodeAt bits depthPair i p >>= λ x.
+      decodeAt bits codePair i (x .1) >>= λ y.
+      decodeAt bits oneBit i (y .1) >>= λ z.
+      ok ((x .0 .0, (x .0 .1, (y .0 .0, (y .0 .1, z .0)))), z .1))
+  unfolding pcmFields depthPair codePair
+  pcm-at = pairs-then bits (unsigned-advances 4) (unsigned-advances 4) expGolomb-advances expGolomb-advances oneBit i p
+
+  pub sps-at : decodeAt bits spsFields i p ≡ (decodeAt bits oneBit i p >>= λ x. decodeAt bits (unsigned 7) i (x .1) >>= λ y. ok ((x .0, y .0), y .1))
+  unfolding spsFields
+  sps-at = sequence-at bits flag-advances (λ _. unsigned 7) i p
+
+  pub present-at : {A : Type 0} (b : Bool) (c : Codec Bool A) (e : A) → b ≡ true → decodeAt bits c i p ≡ decodeAt bits (optional b c e) i p
+  present-at b c e h = rw (h, select-true)
+
+  pub absent-at : {A : Type 0} (b : Bool) (c : Codec Bool A) (e : A) → b ≡ false → ok (e, p) ≡ decodeAt bits (optional b c e) i p
+  unfolding absent
+  absent-at b c e h = rw (h, select-false)

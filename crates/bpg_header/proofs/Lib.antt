@@ -1,0 +1,2 @@
+-- Laws of the readers of a HEVC header.
+pub mod FieldLaws

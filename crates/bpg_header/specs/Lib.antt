@@ -1,0 +1,2 @@
+-- What the readers of a HEVC header answer.
+pub mod Fields

@@ -1,0 +1,2 @@
+// The HEVC header of a BPG file: its fields, and the rules that they keep.
+pub mod fields;
