@@ -1,14 +1,19 @@
 -- Each group of fields as a chain of its parts. Assumes nothing.
-use mathlib.Core.Path.{_≡_}
+use mathlib.Core.Path.{_≡_, sym, ap, _∙_}
 use mathlib.Core.Bool.{Bool, true, false}
 use mathlib.Core.List.{List}
-use Prim.Native.Nat.{ℕ}
+use Prim.Native.Nat.{ℕ, _≤_, _<_}
+use lib.ListN.{length, take, drop, replicate}
+use lib.Seq.{length-take-le}
+use borrow.Author.Tests.{le-leb, lt-leb}
 use lib.Dec.{eqb}
-use Rattle.bpg_codec.specs.Outcome.{ok, _>>=_}
-use Rattle.bpg_codec.specs.Codec.{Codec, decodeAt}
+use Rattle.bpg_codec.specs.Outcome.{Outcome, ok, _>>=_}
+use Rattle.bpg_codec.specs.Codec.{Codec, decodeAt, atItem}
 use Rattle.bpg_codec.proofs.Select.{select-true, select-false}
-use Rattle.bpg_codec.specs.Parts.{absent}
-use Rattle.bpg_codec.specs.Bits.{bit}
+use Rattle.bpg_codec.specs.Parts.{absent, fixed}
+use Rattle.bpg_codec.proofs.Bits.{bits-number}
+use Rattle.bpg_codec.proofs.Lists.{either-way}
+use Rattle.bpg_codec.specs.Bits.{Bit, bit, bits as bitsOf}
 use Rattle.bpg_codec.proofs.Positions.{Advances, mapped-advances, sequence-at, mapped-at, pairs-then}
 use Rattle.bpg_numbers.specs.BitNumbers.{unsigned, expGolomb}
 use Rattle.bpg_numbers.proofs.Advances.{unsigned-advances, expGolomb-advances}
@@ -56,3 +61,18 @@ module _ (bits : List Bool) (i p : ℕ) where
   pub absent-at : {A : Type 0} (b : Bool) (c : Codec Bool A) (e : A) → b ≡ false → ok (e, p) ≡ decodeAt bits (optional b c e) i p
   unfolding absent
   absent-at b c e h = rw (h, select-false)
+
+  pub nine-at : decodeAt bits (fixed Bit 9 15 atItem) i p ≡ (decodeAt bits (unsigned 9) i p >>= λ x. ok (bitsOf 9 (x .0), x .1))
+  unfolding fixed
+  nine-at = either-way 9 (length (drop p bits)) enough few
+    where
+      enough : 9 ≤ length (drop p bits) → decodeAt bits (fixed Bit 9 15 atItem) i p ≡ (decodeAt bits (unsigned 9) i p >>= λ x. ok (bitsOf 9 (x .0), x .1))
+      enough h = rw (le-leb _ _ h, bits-number 9 (take 9 (drop p bits)) (length-take-le 9 (drop p bits) h))
+
+      few : length (drop p bits) < 9 → decodeAt bits (fixed Bit 9 15 atItem) i p ≡ (decodeAt bits (unsigned 9) i p >>= λ x. ok (bitsOf 9 (x .0), x .1))
+      few h = rw (lt-leb _ _ h)
+
+  pub nine-present : (b : Bool) → b ≡ true → (o : Outcome (ℕ × ℕ)) → o ≡ decodeAt bits (unsigned 9) i p
+      → (o >>= λ x. ok (bitsOf 9 (x .0), x .1)) ≡ decodeAt bits (optional b (fixed Bit 9 15 atItem) (replicate 9 false)) i p
+  nine-present b h o e =
+      ap (λ (m : Outcome (ℕ × ℕ)). m >>= λ x. ok (bitsOf 9 (x .0), x .1)) e ∙ sym nine-at ∙ present-at b (fixed Bit 9 15 atItem) (replicate 9 false) h
