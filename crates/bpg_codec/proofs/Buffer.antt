@@ -1,16 +1,14 @@
 -- The laws of writing into a buffer. Assumes nothing.
 use mathlib.Core.Path.{_≡_, sym, ap, _∙_}
 use mathlib.Core.List.{List, [], _∷_, _++_, append-assoc}
-use Prim.Native.Nat.{ℕ, _+_, _*_, _≤_, _<_}
+use Prim.Native.Nat.{ℕ, _+_, _≤_, _<_}
 use native.Mathlib.Numerals.{add-one}
 use native.Mathlib.Omega.{arith}
 use lib.ListN.{length, take, drop, set, length-append, length-take, length-drop}
 use lib.Seq.{set-split, length-take-le, take-append-seam, drop-append-add, drop-drop}
 use borrow.Author.Tests.{le-leb, lt-leb}
-use Rattle.bpg_codec.specs.Bits.{unpack}
 use Rattle.bpg_codec.specs.Buffer.{splice, written, writtenEnd}
 use Rattle.bpg_codec.proofs.Select.{select-true, select-false}
-use Rattle.bpg_codec.proofs.Bits.{unpack-append, unpack-take, unpack-drop, length-unpack}
 
 module _ {S : Type 0} where
   pub length-splice : (out : List S) (at : ℕ) (l : List S) → at + length l ≤ length out → length (splice out at l) ≡ length out
@@ -53,9 +51,3 @@ module _ {S : Type 0} where
       (sym (stored (splice out at a) (at + length a) b (rw (length-splice out at a (omega arith)) h) .0)
       ∙ splice-splice out at a b (omega arith)
       ∙ stored out at (a ++ b) (rw length-append (omega arith)) .0)
-
--- a write of bytes, as one of their bits
-pub unpack-splice : (out : List ℕ) (at : ℕ) (l : List ℕ) → unpack (splice out at l) ≡ splice (unpack out) (8 * at) (unpack l)
-unpack-splice out at l =
-    let e : 8 * (at + length l) ≡ 8 * at + length (unpack l) = rw length-unpack (omega arith) in
-    rw (unpack-append, unpack-append, unpack-take, unpack-drop, e)

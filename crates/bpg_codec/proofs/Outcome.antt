@@ -42,10 +42,6 @@ pub unlocate : {A S P : Type 0} (m : Outcome (A × ℕ × List S)) {a : A} {p : 
 unlocate {A} {S} (ok x) e f = f (x .2) (subst (λ (t : A × ℕ). _≡_ {A = Outcome (A × ℕ × List S)} (ok x) (ok (t .0, t .1, x .2))) (ok-injective e) refl)
 unlocate (error s o) e f = absurd (error-not-ok e)
 
-pub unlocate-error : {A S : Type 0} (m : Outcome (A × ℕ × List S)) {s o : ℕ} → located m ≡ error s o → m ≡ error s o
-unlocate-error (ok x) e = cc
-unlocate-error (error t p) e = cc
-
 -- another value in the same place
 pub located-map : {A B S : Type 0} (m : Outcome (A × ℕ × List S)) (f : A → B)
     → located (m >>= λ x. ok (f (x .0), x .1, x .2)) ≡ (located m >>= λ y. ok (f (y .0), y .1))

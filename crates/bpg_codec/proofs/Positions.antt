@@ -1,15 +1,14 @@
 -- Decoding at an offset of a region: what is left there is `drop p region`, whatever the tokens are. Assumes nothing.
 use mathlib.Core.Path.{_≡_, refl, sym, ap, _∙_, subst}
-use mathlib.Core.Bool.{Bool, true, false}
+use mathlib.Core.Bool.{Bool}
 use mathlib.Core.List.{List}
 use Prim.Native.Nat.{ℕ, _+_, _-_, _≤_}
 use native.Mathlib.Omega.{arith}
 use lib.ListN.{length, drop, length-drop}
 use lib.Seq.{drop-drop}
-use Rattle.bpg_codec.specs.Select.{select}
 use Rattle.bpg_codec.specs.Outcome.{Outcome, ok, error, _>>=_, located}
 use Rattle.bpg_codec.specs.Codec.{Codec, decodeAt}
-use Rattle.bpg_codec.specs.Parts.{sequence, mapped, guarded, absent}
+use Rattle.bpg_codec.specs.Parts.{sequence, mapped, guarded}
 use Rattle.bpg_codec.proofs.Outcome.{ok-injective, unbind, unguard, bind-assoc}
 
 -- r is what is left of l where p has become q
@@ -19,9 +18,6 @@ pub record Advanced {S : Type 0} (p : ℕ) (l : List S) (q : ℕ) (r : List S) :
   pub left : r ≡ drop (q - p) l
 
 module _ {S : Type 0} where
-  pub stayed : (p : ℕ) (l : List S) → Advanced p l p l
-  stayed p l = let n : p - p ≡ 0 = omega arith in record { forward = omega arith; inside = omega arith; left = ap (λ (k : ℕ). drop k l) (sym n) }
-
   pub moved : (p : ℕ) (l : List S) (n : ℕ) → n ≤ length l → Advanced p l (p + n) (drop n l)
   moved p l n h = let e : p + n - p ≡ n = omega arith in record { forward = omega arith; inside = omega arith; left = ap (λ (k : ℕ). drop k l) (sym e) }
 
@@ -75,28 +71,6 @@ module _ {S A : Type 0} {c : Codec S A} (hc : Advances c) where
             unbind (c .decode i p l) _ e λ y e1 e2.
             subst (λ (z : B × ℕ × List S). Advanced p l (z .1) (z .2)) (ok-injective e2) (hc .advances i p l y e1);
       }
-
-  pub sequence-advances : {B : Type 0} {d : A → Codec S B} → ((a : A) → Advances (d a)) → Advances (sequence c d)
-  unfolding sequence
-  sequence-advances {B} {d} hd =
-      record {
-        advances = λ i p l x e.
-            unbind (c .decode i p l) _ e λ y e1 e2.
-            unbind (d (y .0) .decode i (y .1) (y .2)) _ e2 λ z e3 e4.
-            subst (λ (w : (A × B) × ℕ × List S). Advanced p l (w .1) (w .2)) (ok-injective e4)
-            (advanced-then (hc .advances i p l y e1) (hd (y .0) .advances i (y .1) (y .2) z e3));
-      }
-
-module _ {S A : Type 0} where
-  pub absent-advances : (a : A) → Advances {S = S} (absent a)
-  unfolding absent
-  absent-advances a =
-      record { advances = λ i p l x e. subst (λ (z : A × ℕ × List S). Advanced p l (z .1) (z .2)) (ok-injective e) (stayed p l) }
-
-  pub select-advances : (b : Bool) (c d : Codec S A) → Advances c → Advances d → Advances (select b c d)
-  unfolding select
-  select-advances true c d hc hd = hc
-  select-advances false c d hc hd = hd
 
 -- ---- decoding at an offset, without what is left
 

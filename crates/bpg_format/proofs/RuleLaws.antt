@@ -22,7 +22,7 @@ use Rattle.bpg_format.specs.Zero.{zeroHeader}
 use Rattle.bpg_format.specs.Content.{Flags, Extension, Loop, Content, hasAlpha, bitDepth}
 use Rattle.bpg_format.specs.Syntax.{extensionBytes, blockBytes, extensionPart, headerBits, headerBytes, bodyBytes, dataLength, fileOf}
 use Rattle.bpg_format.specs.Rules.{HeaderRules, LoopPayload, isLoop, ExtensionRules, hasLoop, OneLoop, noLoop, Rules}
-use Rattle.bpg_format.specs.FileCodec.{FlagsRules, flags, dimension, period, loopNumbers, payload, extension, seenAfter, extensions, block, loopFrom, loopIn, loopOf, header, alphaHeader, body, countsBody, parts, withLoop, partsOf, lengthOf, file}
+use Rattle.bpg_format.specs.FileCodec.{FlagsRules, flags, dimension, period, loopNumbers, payload, extension, seenAfter, extensions, block, loopFrom, loopIn, loopOf, header, alphaHeader, body, countsBody, parts, withLoop, lengthOf, file}
 use Rattle.bpg_format.proofs.FileLaws.{loopNumbers-lawful}
 use Rattle.bpg_format.proofs.SyntaxLaws.{payload-encode, each-encode, length-encode, file-encode}
 use Rattle.bpg_format.proofs.HeaderRuleLaws.{unless, unless-full, header-sound, header-full}
@@ -288,9 +288,6 @@ module _ (c : Content) where
   length-size = by-tag (c .explicitLength) (λ e. omega (arith, select-true (length (bodyBytes c)) 0 e)) (λ e. omega (arith, select-false (length (bodyBytes c)) 0 e))
 
 -- ---- the file
-
-abbrev Valids : Content → Type 0
-Valids c = parts .Valid (partsOf c .0) × (c .loop ≡ loopOf (c .extensions))
 
 pub file-sound : (c : Content) → file .Valid c → Rules c
 unfolding file mappedExact withLoop derived parts guardedRegion thenRest itemThenRest flags dimension guarded body alphaHeader rest
