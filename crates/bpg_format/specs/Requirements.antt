@@ -18,7 +18,7 @@ use Rattle.bpg_format.specs.Write.{writeFile, writeBuffer, WritingStatus
 use Rattle.bpg_format.specs.Pictures.{canonicalBytes, SamePicture, canonicalFile, canonicalBuffer}
 
 -- 1. "Every call takes every input. A bad file or record is refused with the number and place in document 01, any record returned is then
--- all zero, and lent capacity keeps its old contents; an index past the last entry gives an empty part."
+-- all zero, and lent room keeps its old contents; an index past the last entry gives an empty part."
 --
 -- That every call takes every input is that no public function has a precondition; number and place are the definitions' own.
 pub record Refusals : Type 0 where
@@ -26,7 +26,7 @@ pub record Refusals : Type 0 where
   pub reading : (f : List ℕ) → readFile f .status ≢ 0 → readFile f ≡ refusedReading (readFile f .status) (readFile f .offset)
   -- "with the number .. in document 01"
   pub reading-number : (f : List ℕ) → readFile f .status ≢ 0 → ReadingStatus (readFile f .status)
-  -- "lent capacity keeps its old contents"
+  -- "lent room keeps its old contents"
   pub writing : (r : Record) (source out : List ℕ) → writeFile r source out .status ≢ 0
       → (writeFile r source out ≡ refusedWritten (writeFile r source out .status) 0) × WritingStatus (writeFile r source out .status) × (writeBuffer r source out ≡ out)
   pub canonicalizing : (f out : List ℕ) → canonicalFile f out .status ≢ 0
@@ -71,7 +71,7 @@ pub record Ranges : Type 0 where
   pub whole : (c : Content) → Rules c → joined 0 (rangesOf (recordOf c)) (fileOf c) ≡ fileOf c
   pub data-last : (c : Content) → Rules c → rangeEnd (recordOf c .«data») ≡ length (fileOf c)
 
--- 3. "Take any two accepted files, and tidy each into capacity that holds its tidy form, whatever bytes that capacity had before."
+-- 3. "Take any two accepted files, and tidy each into room that holds its tidy form, whatever bytes that room had before."
 module _ (f out : List ℕ) where
   abbrev pub count : ℕ
   count = canonicalFile f out .count
@@ -80,7 +80,7 @@ module _ (f out : List ℕ) where
   abbrev pub bytes : List ℕ
   bytes = take count (canonicalBuffer f out)
 
--- `out1` and `out2` are the two rooms, of any length and content
+-- `out1` and `out2` are the two buffers (the demand's room), of any length and content
 pub record Canonicalized (f g out1 out2 : List ℕ) : Type 0 where
   -- "Both tidyings succeed."
   pub first : canonicalFile f out1 .status ≡ 0
@@ -91,13 +91,13 @@ pub record Canonicalized (f g out1 out2 : List ℕ) : Type 0 where
   pub form : (c : Content) → Rules c → f ≡ fileOf c → bytes f out1 ≡ canonicalBytes c
   pub is-accepted : Accepted (bytes f out1)
   pub same : SamePicture (bytes f out1) f
-  -- "Tidied again, into capacity that holds it, it gives the same count and the same bytes."
+  -- "Tidied again, into room that holds it, it gives the same count and the same bytes."
   pub again : (out3 : List ℕ) → length (bytes f out1) ≤ length out3
       → (canonicalFile (bytes f out1) out3 .status ≡ 0) × (count (bytes f out1) out3 ≡ count f out1) × (bytes (bytes f out1) out3 ≡ bytes f out1)
   -- "Every accepted file of that picture has at least as many bytes as the count that tidying answered."
   pub minimal : (h : List ℕ) → Accepted h → SamePicture h f → count f out1 ≤ length h
 
--- "The premise is only that the files are accepted and that each capacity holds the tidy form written into it."
+-- "The premise is only that the files are accepted and that each room holds the tidy form written into it."
 abbrev pub OneFormPerPicture : Type 0
 OneFormPerPicture =
     (f g out1 out2 : List ℕ) (a : Accepted f) (b : Accepted g) → length (canonicalBytes (a .0)) ≤ length out1 → length (canonicalBytes (b .0)) ≤ length out2

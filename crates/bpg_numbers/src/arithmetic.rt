@@ -9,7 +9,7 @@ pub fn least(a: usize, b: usize) -> usize
 }
 
 // How many places are left from `at` on, of `len`: none where `at` is past them.
-pub fn room(len: usize, at: usize) -> usize
+pub fn remaining(len: usize, at: usize) -> usize
     ensures { λ r. ⌜ r ≡ len - at ⌝ }
 {
     if at < len { len - at } else { 0 }

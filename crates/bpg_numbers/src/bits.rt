@@ -1,6 +1,6 @@
 // Reading a region's bits, the high bit of each byte first.
 use crate::arithmetic::least;
-use crate::arithmetic::room;
+use crate::arithmetic::remaining;
 use crate::arithmetic::wide;
 use crate::position::BitPos;
 ghost use mathlib.Core.Path.{_≡_};
@@ -42,7 +42,7 @@ pub fn read(region: &[u8], at: BitPos, n: u32) -> BitNumber
 {
     let start = at.0;
     let width = least(n as usize, 32);
-    if room(count(region), start) < width {
+    if remaining(count(region), start) < width {
         return BitNumber::Missing;
     }
     let past = start + width;

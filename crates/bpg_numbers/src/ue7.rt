@@ -1,6 +1,6 @@
 // The number code ue7(n): groups of seven bits, the high group first; a byte's top bit is 1 on all but the last.
 // Only the shortest form is taken.
-use crate::arithmetic::room;
+use crate::arithmetic::remaining;
 use crate::position::BytePos;
 ghost use mathlib.Core.Path.{_≡_};
 ghost use Prim.Native.Nat.{min, _-_, _^_, _<_};
@@ -75,7 +75,7 @@ pub fn write(out: &mut [u8], at: BytePos, v: u32) -> BytePos
 {
     let start = at.0;
     let count = size(v);
-    if room(out.len(), start) < count {
+    if remaining(out.len(), start) < count {
         return at;
     }
     let past = start + count;

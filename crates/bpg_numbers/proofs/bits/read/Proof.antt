@@ -65,8 +65,8 @@ least-requires c κs = search needs
 count-requires : tie.Need-count-requires Inv-loop μ-loop
 count-requires c κs = search needs
 
-room-requires : tie.Need-room-requires Inv-loop μ-loop
-room-requires c κs = search needs
+remaining-requires : tie.Need-remaining-requires Inv-loop μ-loop
+remaining-requires c κs = search needs
 
 returns : tie.Need-returns Inv-loop μ-loop
 returns c = let a = c .before .before .before .before .before .args in
@@ -124,7 +124,7 @@ read-spec =
     μ-loop
     least-requires
     count-requires
-    room-requires
+    remaining-requires
     returns
     add-past
     loop-holds

@@ -52,8 +52,8 @@ done entry out at past v h k p g t =
 size-requires : tie.Need-size-requires Inv-loop μ-loop
 size-requires c κs = search needs
 
-room-requires : tie.Need-room-requires Inv-loop μ-loop
-room-requires c κs = search needs
+remaining-requires : tie.Need-remaining-requires Inv-loop μ-loop
+remaining-requires c κs = search needs
 
 returns : tie.Need-returns Inv-loop μ-loop
 returns c = let a = c .before .before .before .before .args in
@@ -123,7 +123,7 @@ write-spec =
     Inv-loop
     μ-loop
     size-requires
-    room-requires
+    remaining-requires
     returns
     add-past
     sub-next
