@@ -5,15 +5,15 @@ use mathlib.Core.List.{List}
 use Prim.Native.Nat.{ℕ, _^_, _<_}
 use lib.ListN.{drop}
 use borrow.Author.Tests.{eq-eqb, ne-eqb}
-use Rattle.bpg_codec.specs.Outcome.{ok, error, _>>=_, located}
+use Rattle.bpg_codec.specs.Outcome.{Outcome, ok, error, _>>=_, located}
 use Rattle.bpg_codec.specs.Parts.{guarded}
 use Rattle.bpg_codec.specs.Regions.{thenRest, rest}
 use Rattle.bpg_codec.specs.Codec.{atOwn}
 use Rattle.bpg_codec.proofs.Outcome.{unbind, unguard, bind-assoc}
 use Rattle.bpg_codec.proofs.Positions.{Advances, guarded-advances}
-use Rattle.bpg_numbers.specs.Ue7.{ue7}
+use Rattle.bpg_numbers.specs.Ue7.{ue7, notZero}
 use Rattle.bpg_numbers.proofs.Advances.{ue7-advances, ue7-limit}
-use Rattle.bpg_format.specs.FileCodec.{notZero, period, loopNumbers}
+use Rattle.bpg_format.specs.FileCodec.{period, loopNumbers}
 use Rattle.bpg_entries.specs.declared.animation.Animation.{Animation}
 use Rattle.bpg_entries.specs.Animations.{refusedAnimation, animationAnswer}
 
@@ -22,17 +22,9 @@ unfolding period
 period-advances = guarded-advances (ue7-advances 16) notZero 12 atOwn
 
 module _ (region : List ℕ) (p : ℕ) where
-  pub period-refused : (s o : ℕ) → ue7 16 .decode p p (drop p region) ≡ error s o → error s o ≡ located (period .decode p p (drop p region))
-  unfolding period guarded
-  period-refused s o e = rw e
-
-  pub period-zero : (v q : ℕ) → ue7 16 .decode p p (drop p region) ≡ ok (v, q, drop q region) → v ≡ 0 → error 12 p ≡ located (period .decode p p (drop p region))
-  unfolding period guarded
-  period-zero v q e z = rw (e, eq-eqb v 0 z)
-
-  pub period-value : (v q : ℕ) → ue7 16 .decode p p (drop p region) ≡ ok (v, q, drop q region) → v ≢ 0 → ok (v, q) ≡ located (period .decode p p (drop p region))
-  unfolding period guarded
-  period-value v q e z = rw (e, ne-eqb v 0 z)
+  pub as-period : (o : Outcome (ℕ × ℕ)) → o ≡ located (guarded (ue7 16) notZero 12 atOwn .decode p p (drop p region)) → o ≡ located (period .decode p p (drop p region))
+  unfolding period
+  as-period o e = e
 
   pub period-limit : (v q : ℕ) → period .decode p p (drop p region) ≡ ok (v, q, drop q region) → v < 2 ^ 16
   unfolding period guarded

@@ -4,9 +4,7 @@ use bpg_numbers::ue7;
 use bpg_numbers::ue7::Number;
 ghost use mathlib.Core.Path.{_≡_};
 ghost use lib.ListN.{drop};
-ghost use Rattle.bpg_codec.specs.Outcome.{located};
-ghost use Rattle.bpg_numbers.specs.Answers.{numberOutcome};
-ghost use Rattle.bpg_format.specs.FileCodec.{period, loopNumbers};
+ghost use Rattle.bpg_format.specs.FileCodec.{loopNumbers};
 ghost use Rattle.bpg_entries.specs.Animations.{refusedAnimation, animationAnswer};
 
 // Status 0 and the numbers; or a refusal and zeros.
@@ -30,30 +28,15 @@ pub fn refused(status: u8, offset: usize) -> Animation
     }
 }
 
-// One of the two period numbers, which is not 0.
-fn period_number(region: &[u8], at: BytePos) -> Number
-    ensures { λ r. ⌜ numberOutcome r ≡ located (period .decode (at .0) (at .0) (drop (at .0) (now (region .entry)))) ⌝ }
-{
-    match ue7::read(region, at, 16) {
-        Number::Refused(status, offset) => Number::Refused(status, offset),
-        Number::Value(value, next) => {
-            if value == 0 {
-                return Number::Refused(12, at);
-            }
-            Number::Value(value, next)
-        }
-    }
-}
-
 // The numbers from `at` on, in a region that ends with the payload.
 pub fn read(region: &[u8], at: BytePos) -> Animation
     ensures { λ r. ⌜ r ≡ animationAnswer (loopNumbers .decode (at .0) (at .0) (drop (at .0) (now (region .entry)))) ⌝ }
 {
     match ue7::read(region, at, 16) {
         Number::Refused(status, offset) => refused(status, offset.0),
-        Number::Value(count, after_count) => match period_number(region, after_count) {
+        Number::Value(count, after_count) => match ue7::read_nonzero(region, after_count, 16, 12) {
             Number::Refused(status, offset) => refused(status, offset.0),
-            Number::Value(num, after_num) => match period_number(region, after_num) {
+            Number::Value(num, after_num) => match ue7::read_nonzero(region, after_num, 16, 12) {
                 Number::Refused(status, offset) => refused(status, offset.0),
                 Number::Value(den, after_den) => Animation {
                     status: 0,

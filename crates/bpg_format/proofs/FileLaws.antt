@@ -17,6 +17,7 @@ use Rattle.bpg_codec.proofs.Bits.{bit-of-bit, bit-of-number}
 use Rattle.bpg_codec.proofs.Parts.{sequence-lawful, mapped-lawful, guarded-lawful, sized-lawful, item-lawful, absent-lawful, select-lawful, fixed-lawful}
 use Rattle.bpg_codec.proofs.Regions.{thenRest-lawful, itemThenRest-lawful, mappedExact-lawful, derived-lawful, guardedRegion-lawful, rest-lawful, verbatim-lawful, repeated-lawful}
 use Rattle.bpg_codec.proofs.Packed.{packed-lawful}
+use Rattle.bpg_numbers.specs.Ue7.{notZero}
 use Rattle.bpg_numbers.proofs.Ue7Laws.{ue7-lawful, size-positive}
 use Rattle.bpg_numbers.proofs.BitNumberLaws.{unsigned-lawful, expGolomb-lawful}
 use Rattle.bpg_format.specs.Limits.{maxEntries, maxFile}
@@ -24,7 +25,7 @@ use Rattle.bpg_format.specs.declared.record.Header.{Header}
 use Rattle.bpg_format.specs.Zero.{zeroHeader}
 use Rattle.bpg_format.specs.Content.{Flags, Extension, Loop, Content, hasAlpha, bitDepth}
 use Rattle.bpg_format.specs.Rules.{hasLoop}
-use Rattle.bpg_format.specs.FileCodec.{flags, notZero, dimension, period, loopNumbers, payload, extension, seenAfter, extensions, block, loopOf, oneBit, optional, sizeFields, pcmFields, spsFields, noPcm, noSps, fieldSequence, headerFields, noForbiddenBit, hevcAllowed, header, alphaHeader, body, countsBody, Parts, parts, withLoop, contentFrom, partsOf, file}
+use Rattle.bpg_format.specs.FileCodec.{flags, dimension, period, loopNumbers, payload, extension, seenAfter, extensions, block, loopOf, oneBit, optional, sizeFields, pcmFields, spsFields, noPcm, noSps, fieldSequence, headerFields, noForbiddenBit, hevcAllowed, header, alphaHeader, body, countsBody, Parts, parts, withLoop, contentFrom, partsOf, file}
 use Rattle.bpg_format.proofs.FlagLaws.{flags-lawful}
 
 -- ---- the extension block

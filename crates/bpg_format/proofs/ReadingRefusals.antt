@@ -13,7 +13,7 @@ use Rattle.bpg_codec.specs.Lawful.{Byte}
 use Rattle.bpg_codec.specs.Bits.{Bit}
 use Rattle.bpg_codec.specs.Parts.{sequence, same}
 use Rattle.bpg_codec.proofs.Refusals.{Refuses, refuses-ok, refuses-bind, refuses-guard, CodecRefuses, ExactRefuses, sequence-refuses, mapped-refuses, guarded-refuses, sized-refuses, item-refuses, select-refuses, absent-refuses, fixed-refuses, thenRest-refuses, itemThenRest-refuses, mappedExact-refuses, derived-refuses, guardedRegion-refuses, rest-refuses, verbatim-refuses, repeated-refuses, packed-refuses}
-use Rattle.bpg_numbers.specs.Ue7.{ue7}
+use Rattle.bpg_numbers.specs.Ue7.{ue7, notZero}
 use Rattle.bpg_numbers.specs.BitNumbers.{unsigned, expGolomb}
 use Rattle.bpg_numbers.proofs.Refusals.{ue7-refuses, unsigned-refuses, expGolomb-refuses}
 use Rattle.bpg_format.specs.Limits.{maxEntries, maxFile}
@@ -21,7 +21,7 @@ use Rattle.bpg_format.specs.Zero.{zeroHeader}
 use Rattle.bpg_format.specs.Content.{Flags, hasAlpha, bitDepth}
 use Rattle.bpg_format.specs.Syntax.{magic}
 use Rattle.bpg_format.specs.Rules.{hasLoop}
-use Rattle.bpg_format.specs.FileCodec.{flagsOf, colorSpaceAllowed, readFlags, flags, notZero, dimension, period, loopNumbers, payload, extension, seenAfter, extensions, block, loopOf, oneBit, optional, sizeFields, pcmFields, spsFields, noPcm, noSps, fieldSequence, headerFrom, fieldsOf, headerFields, noForbiddenBit, hevcAllowed, header, alphaHeader, body, countsBody, Parts, parts, withLoop, contentFrom, partsOf, file}
+use Rattle.bpg_format.specs.FileCodec.{flagsOf, colorSpaceAllowed, readFlags, flags, dimension, period, loopNumbers, payload, extension, seenAfter, extensions, block, loopOf, oneBit, optional, sizeFields, pcmFields, spsFields, noPcm, noSps, fieldSequence, headerFrom, fieldsOf, headerFields, noForbiddenBit, hevcAllowed, header, alphaHeader, body, countsBody, Parts, parts, withLoop, contentFrom, partsOf, file}
 use Rattle.bpg_format.specs.Read.{readContent, ReadingStatus}
 use Rattle.bpg_format.proofs.Chain.{content-chain}
 

@@ -15,7 +15,7 @@ use Rattle.bpg_codec.specs.Lawful.{All, Byte}
 use Rattle.bpg_codec.proofs.Select.{select-true, select-false, is-true, and-left, and-right}
 use Rattle.bpg_codec.proofs.Outcome.{ok-injective, unbind, unguard}
 use Rattle.bpg_codec.proofs.Tokens.{all-take, all-drop, all-replicate}
-use Rattle.bpg_numbers.specs.Ue7.{ue7Bytes}
+use Rattle.bpg_numbers.specs.Ue7.{ue7Bytes, notZero}
 use Rattle.bpg_format.specs.Limits.{maxFile}
 use Rattle.bpg_format.specs.declared.record.Entry.{Entry}
 use Rattle.bpg_format.specs.declared.record.Record.{Record}
@@ -23,7 +23,7 @@ use Rattle.bpg_format.specs.Zero.{zeroEntry, zeroHeader}
 use Rattle.bpg_format.specs.Content.{isEmpty, Extension, Content, hasAlpha, bitDepth}
 use Rattle.bpg_format.specs.Syntax.{extensionBytes, blockBytes, fileOf}
 use Rattle.bpg_format.specs.Rules.{hasLoop, noLoop, Rules}
-use Rattle.bpg_format.specs.FileCodec.{colorSpaceAllowed, notZero}
+use Rattle.bpg_format.specs.FileCodec.{colorSpaceAllowed}
 use Rattle.bpg_format.specs.Records.{entriesAt, blockStart, recordOf, extensionOf, usedEntries, contentOf}
 use Rattle.bpg_format.specs.Write.{inSource, entriesInSource, rangesInSource, isZero, zeroEntries, unusedZero, absentZero, headerZero, sameLoop, consistent, checkEntries, checkHeader, checkContent, sizedFile, writeOutcome, Typed, Writable}
 use Rattle.bpg_format.proofs.HeaderRuleLaws.{unless, unless-full}

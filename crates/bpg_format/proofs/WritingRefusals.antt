@@ -9,13 +9,14 @@ use lib.ListN.{length}
 use Rattle.bpg_codec.specs.Select.{select}
 use Rattle.bpg_codec.specs.Outcome.{Outcome, ok, error, _>>=_, guard}
 use Rattle.bpg_codec.proofs.Refusals.{Refuses, refuses-ok, refuses-error, refuses-bind, refuses-guard, refuses-select}
+use Rattle.bpg_numbers.specs.Ue7.{notZero}
 use Rattle.bpg_format.specs.declared.record.Header.{Header}
 use Rattle.bpg_format.specs.declared.record.Record.{Record}
 use Rattle.bpg_format.specs.Limits.{maxEntries, maxFile}
 use Rattle.bpg_format.specs.Content.{Extension, Loop, Content, hasAlpha, bitDepth}
 use Rattle.bpg_format.specs.Syntax.{fileOf}
 use Rattle.bpg_format.specs.Rules.{isLoop, hasLoop}
-use Rattle.bpg_format.specs.FileCodec.{colorSpaceAllowed, notZero, loopNumbers, loopFrom, noForbiddenBit, hevcAllowed}
+use Rattle.bpg_format.specs.FileCodec.{colorSpaceAllowed, loopNumbers, loopFrom, noForbiddenBit, hevcAllowed}
 use Rattle.bpg_format.specs.Records.{contentOf}
 use Rattle.bpg_format.specs.Write.{rangesInSource, unusedZero, consistent, sameLoop, atZero, checkLoop, checkEntries, fieldsCoded, checkHeader, checkContent, sizedFile, writeOutcome, WritingStatus}
 use Rattle.bpg_format.proofs.ReadingRefusals.{loop-refuses}

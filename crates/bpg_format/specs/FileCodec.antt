@@ -12,7 +12,7 @@ use Rattle.bpg_codec.specs.Lawful.{Byte}
 use Rattle.bpg_codec.specs.Bits.{Bit, bit}
 use Rattle.bpg_codec.specs.Parts.{sequence, mapped, guarded, sized, item, absent, fixed, same}
 use Rattle.bpg_codec.specs.Regions.{thenRest, itemThenRest, mappedExact, derived, guardedRegion, rest, verbatim, repeated, packed}
-use Rattle.bpg_numbers.specs.Ue7.{ue7}
+use Rattle.bpg_numbers.specs.Ue7.{ue7, notZero}
 use Rattle.bpg_numbers.specs.BitNumbers.{unsigned, expGolomb}
 use Rattle.bpg_format.specs.Limits.{maxEntries, maxFile}
 use Rattle.bpg_format.specs.declared.record.Header.{Header}
@@ -69,9 +69,6 @@ flags =
     }
 
 -- ---- item 3: width and height are not 0
-
-abbrev pub notZero : ℕ → Bool
-notZero v = not (eqb v 0)
 
 unfoldable pub dimension : Codec ℕ ℕ
 dimension = guarded (ue7 32) notZero 9 atOwn

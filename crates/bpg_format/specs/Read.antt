@@ -8,14 +8,14 @@ use lib.ListN.{length, take, drop, replicate}
 use Rattle.bpg_codec.specs.Select.{select}
 use Rattle.bpg_codec.specs.Outcome.{Outcome, ok, error, _>>=_, guard}
 use Rattle.bpg_codec.specs.Bits.{unpack, allZero}
-use Rattle.bpg_numbers.specs.Ue7.{ue7}
+use Rattle.bpg_numbers.specs.Ue7.{ue7, notZero}
 use Rattle.bpg_numbers.specs.BitNumbers.{unsigned, expGolomb}
 use Rattle.bpg_format.specs.Limits.{maxEntries, maxFile}
 use Rattle.bpg_format.specs.declared.record.Header.{Header}
 use Rattle.bpg_format.specs.Zero.{zeroHeader}
 use Rattle.bpg_format.specs.Content.{Flags, Extension, Content, hasAlpha, bitDepth}
 use Rattle.bpg_format.specs.Rules.{isLoop, hasLoop}
-use Rattle.bpg_format.specs.FileCodec.{readFlags, notZero, loopOf, SizeFields, PcmFields, noPcm, noSps, headerFrom, noForbiddenBit, hevcAllowed, countsBody}
+use Rattle.bpg_format.specs.FileCodec.{readFlags, loopOf, SizeFields, PcmFields, noPcm, noSps, headerFrom, noForbiddenBit, hevcAllowed, countsBody}
 
 -- the number at p: 2, 7 or 8 at p
 abbrev pub number : (n p : ℕ) → List ℕ → Outcome (ℕ × ℕ × List ℕ)

@@ -10,6 +10,7 @@ use Rattle.bpg_codec.specs.Select.{select}
 use Rattle.bpg_codec.specs.Outcome.{Outcome, ok, error, _>>=_, guard}
 use Rattle.bpg_codec.specs.Lawful.{All}
 use Rattle.bpg_codec.specs.Bits.{allZero}
+use Rattle.bpg_numbers.specs.Ue7.{notZero}
 use Rattle.bpg_format.specs.Limits.{maxEntries, maxFile}
 use Rattle.bpg_format.specs.declared.record.Range.{Range}
 use Rattle.bpg_format.specs.declared.record.Entry.{Entry}
@@ -20,7 +21,7 @@ use Rattle.bpg_format.specs.Zero.{zeroEntry, zeroHeader, refusedWritten}
 use Rattle.bpg_format.specs.Content.{isEmpty, Extension, Loop, Content, hasAlpha, bitDepth}
 use Rattle.bpg_format.specs.Syntax.{fileOf}
 use Rattle.bpg_format.specs.Rules.{isLoop, hasLoop, noLoop, Rules}
-use Rattle.bpg_format.specs.FileCodec.{colorSpaceAllowed, notZero, loopNumbers, loopFrom, noForbiddenBit, hevcAllowed}
+use Rattle.bpg_format.specs.FileCodec.{colorSpaceAllowed, loopNumbers, loopFrom, noForbiddenBit, hevcAllowed}
 use Rattle.bpg_format.specs.Records.{usedEntries, contentOf}
 
 -- ---- refusal 18: a range outside the source

@@ -1,5 +1,5 @@
 -- ue7(n) (document 01, "Numbers in the file"): groups of seven bits, the high group first, the top bit 1 on all bytes but the last.
-use mathlib.Core.Bool.{not}
+use mathlib.Core.Bool.{Bool, not}
 use mathlib.Core.List.{List, [], _∷_, _++_}
 use Prim.Native.Nat.{ℕ, zero, suc, _+_, _*_, _/_, _%_, _^_, _<_}
 use lib.Dec.{ltb, eqb}
@@ -33,3 +33,6 @@ ue7Decode n start (b ∷ l) = guard (not (eqb b 128)) 7 start >>= λ _. ue7Rest 
 
 abbrev pub ue7 : ℕ → Codec ℕ ℕ
 ue7 n = record { encode = ue7Bytes; decode = λ i p l. ue7Decode n p l; Valid = λ v. v < 2 ^ n }
+
+abbrev pub notZero : ℕ → Bool
+notZero v = not (eqb v 0)

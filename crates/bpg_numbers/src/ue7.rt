@@ -6,8 +6,10 @@ ghost use mathlib.Core.Path.{_≡_};
 ghost use Prim.Native.Nat.{min, _-_, _^_, _<_};
 ghost use lib.ListN.{length, drop};
 ghost use Rattle.bpg_codec.specs.Outcome.{located};
+ghost use Rattle.bpg_codec.specs.Codec.{atOwn};
+ghost use Rattle.bpg_codec.specs.Parts.{guarded};
 ghost use Rattle.bpg_codec.specs.Buffer.{written, writtenEnd};
-ghost use Rattle.bpg_numbers.specs.Ue7.{ue7};
+ghost use Rattle.bpg_numbers.specs.Ue7.{ue7, notZero};
 ghost use Rattle.bpg_numbers.specs.Answers.{numberOutcome};
 
 // A number and the position after it, or the status of a refusal and the position that it is reported at.
@@ -53,6 +55,21 @@ pub fn read(region: &[u8], at: BytePos, n: u32) -> Number
         }
     }
     Number::Refused(2, at)
+}
+
+// The number at `at`, which is not 0: a 0 is refused with `status`, at the number.
+pub fn read_nonzero(region: &[u8], at: BytePos, n: u32, status: u8) -> Number
+    ensures { λ r. ⌜ numberOutcome r ≡ located (guarded (ue7 (min n 32)) notZero status atOwn .decode (at .0) (at .0) (drop (at .0) (now (region .entry)))) ⌝ }
+{
+    match read(region, at, n) {
+        Number::Refused(why, offset) => Number::Refused(why, offset),
+        Number::Value(value, next) => {
+            if value == 0 {
+                return Number::Refused(status, at);
+            }
+            Number::Value(value, next)
+        }
+    }
 }
 
 // How many bytes v takes.

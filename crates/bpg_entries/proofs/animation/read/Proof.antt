@@ -10,7 +10,7 @@ use Rattle.bpg_numbers.specs.Ue7.{ue7}
 use Rattle.bpg_numbers.proofs.Advances.{ue7-advances, ue7-limit}
 use Rattle.bpg_format.specs.FileCodec.{period}
 use Rattle.bpg_numbers.proofs.ReadAt.{value-read, refusal-read}
-use Rattle.bpg_entries.proofs.AnimationLaws.{period-advances, period-limit, count-refused, num-refused, den-refused, all-read}
+use Rattle.bpg_entries.proofs.AnimationLaws.{period-advances, as-period, period-limit, count-refused, num-refused, den-refused, all-read}
 use Rattle.bpg_entries.proofs.animation.read.Statement.{statement}
 use Rattle.bpg_entries.proofs.animation.read.Tie as tie
 
@@ -26,8 +26,8 @@ refused-requires c κs = search needs
 enum-known-count : tie.Need-enum-known-count
 enum-known-count c = search needs
 
-period-number-requires : tie.Need-period-number-requires
-period-number-requires c κs = search needs
+read-nonzero-requires : tie.Need-read-nonzero-requires
+read-nonzero-requires c κs = search needs
 
 enum-known-status-2 : tie.Need-enum-known-status-2
 enum-known-status-2 c = search needs
@@ -38,8 +38,8 @@ refused-requires-2 c κs = search needs
 enum-known-num : tie.Need-enum-known-num
 enum-known-num c = search needs
 
-period-number-requires-2 : tie.Need-period-number-requires-2
-period-number-requires-2 c κs = search needs
+read-nonzero-requires-2 : tie.Need-read-nonzero-requires-2
+read-nonzero-requires-2 c κs = search needs
 
 enum-known-status-3 : tie.Need-enum-known-status-3
 enum-known-status-3 c = search needs
@@ -81,7 +81,7 @@ module _ (c : tie.After-known-told4) where
   num-is : period .decode (after first) (after first) (drop (after first) (region first)) ≡ ok (num, after-num, drop after-num (region first))
   num-is =
       let r = c .before .before .before in
-      value-read period-advances (region first) (after first) (r .period-number .result) (r .period-number .ensures) _ _ (c .before .num .given .1)
+      value-read period-advances (region first) (after first) (r .read-nonzero .result) (as-period _ _ _ (r .read-nonzero .ensures)) _ _ (c .before .num .given .1)
 
 -- and its denominator
 module _ (c : tie.After-known-told6) where
@@ -98,7 +98,7 @@ module _ (c : tie.After-known-told6) where
       ≡ ok (den, after-den, drop after-den (region (first second)))
   den-is =
       let r = c .before .before .before in
-      value-read period-advances (region (first second)) (after-num second) (r .period-number2 .result) (r .period-number2 .ensures) _ _ (c .before .den .given .1)
+      value-read period-advances (region (first second)) (after-num second) (r .read-nonzero2 .result) (as-period _ _ _ (r .read-nonzero2 .ensures)) _ _ (c .before .den .given .1)
 
 cast-t21 : tie.Need-cast-t21
 cast-t21 c = let a = first (second c) in omega (arith, ue7-limit 16 (at a) (at a) _ _ (count-is a))
@@ -120,7 +120,7 @@ returns-2 c =
     let a = r .before in
     c .refused2 .ensures
     ∙ num-refused (region a) (at a) (count a) (after a) (count-is a) _ _
-    (refusal-read period-advances _ _ (r .period-number .result) (r .period-number .ensures) _ _ (c .before .before .status2 .given .1))
+    (refusal-read period-advances _ _ (r .read-nonzero .result) (as-period _ _ _ (r .read-nonzero .ensures)) _ _ (c .before .before .status2 .given .1))
 
 returns-3 : tie.Need-returns-3
 returns-3 c =
@@ -129,7 +129,7 @@ returns-3 c =
     let a = first b in
     c .refused3 .ensures
     ∙ den-refused (region a) (at a) (count a) (after a) (count-is a) (num b) (after-num b) (num-is b) _ _
-    (refusal-read period-advances _ _ (r .period-number2 .result) (r .period-number2 .ensures) _ _ (c .before .before .status3 .given .1))
+    (refusal-read period-advances _ _ (r .read-nonzero2 .result) (as-period _ _ _ (r .read-nonzero2 .ensures)) _ _ (c .before .before .status3 .given .1))
 
 returns-4 : tie.Need-returns-4
 returns-4 c =
@@ -145,11 +145,11 @@ read-spec =
     enum-known-status
     refused-requires
     enum-known-count
-    period-number-requires
+    read-nonzero-requires
     enum-known-status-2
     refused-requires-2
     enum-known-num
-    period-number-requires-2
+    read-nonzero-requires-2
     enum-known-status-3
     refused-requires-3
     enum-known-den
