@@ -1,14 +1,16 @@
 -- Decoding at an offset of a region: what is left there is `drop p region`, whatever the tokens are. Assumes nothing.
 use mathlib.Core.Path.{_≡_, refl, sym, ap, _∙_, subst}
-use mathlib.Core.Bool.{Bool}
+use mathlib.Core.Bool.{Bool, true, false}
 use mathlib.Core.List.{List}
 use Prim.Native.Nat.{ℕ, _+_, _-_, _≤_}
 use native.Mathlib.Omega.{arith}
+use lib.Dec.{leb, leb→le}
 use lib.ListN.{length, drop, length-drop}
 use lib.Seq.{drop-drop}
+use Rattle.bpg_codec.specs.Select.{select}
 use Rattle.bpg_codec.specs.Outcome.{Outcome, ok, error, _>>=_, located}
 use Rattle.bpg_codec.specs.Codec.{Codec, decodeAt}
-use Rattle.bpg_codec.specs.Parts.{sequence, mapped, guarded}
+use Rattle.bpg_codec.specs.Parts.{sequence, mapped, guarded, absent, fixed}
 use Rattle.bpg_codec.proofs.Outcome.{ok-injective, unbind, unguard, bind-assoc}
 
 -- r is what is left of l where p has become q
@@ -72,6 +74,40 @@ module _ {S A : Type 0} {c : Codec S A} (hc : Advances c) where
             subst (λ (z : B × ℕ × List S). Advanced p l (z .1) (z .2)) (ok-injective e2) (hc .advances i p l y e1);
       }
 
+pub sequence-advances : {S A B : Type 0} {c : Codec S A} {d : A → Codec S B} → Advances c → ((a : A) → Advances (d a)) → Advances (sequence c d)
+unfolding sequence
+sequence-advances {S} {A} {B} {c} {d} hc hd =
+    record {
+      advances = λ i p l x e.
+          unbind (c .decode i p l) _ e λ y e1 e2.
+          unbind (d (y .0) .decode i (y .1) (y .2)) _ e2 λ z e3 e4.
+          subst (λ (w : (A × B) × ℕ × List S). Advanced p l (w .1) (w .2)) (ok-injective e4)
+          (advanced-then (hc .advances i p l y e1) (hd (y .0) .advances i (y .1) (y .2) z e3));
+    }
+
+pub absent-advances : {S A : Type 0} (e : A) → Advances {S = S} (absent e)
+unfolding absent
+absent-advances {S} {A} a =
+    record {
+      advances = λ i p l x e.
+          let none : p + 0 ≡ p = omega arith in
+          subst (λ (w : A × ℕ × List S). Advanced p l (w .1) (w .2)) (ok-injective e) (subst (λ (q : ℕ). Advanced p l q l) none (moved p l 0 (omega arith)));
+    }
+
+pub select-advances : {S A : Type 0} {c d : Codec S A} (b : Bool) → Advances c → Advances d → Advances (select b c d)
+unfolding select
+select-advances true hc hd = hc
+select-advances false hc hd = hd
+
+pub fixed-advances : {S : Type 0} (Token : S → Type 0) (n status : ℕ) (offset : ℕ → ℕ → ℕ) → Advances (fixed Token n status offset)
+unfolding fixed
+fixed-advances {S} Token n status offset =
+    record {
+      advances = λ i p l x e.
+          unguard (leb n (length l)) status (offset i p) _ e λ h e1.
+          subst (λ (w : List S × ℕ × List S). Advanced p l (w .1) (w .2)) (ok-injective e1) (moved p l n (leb→le n (length l) h));
+    }
+
 -- ---- decoding at an offset, without what is left
 
 module _ {S : Type 0} (region : List S) where
@@ -118,3 +154,52 @@ module _ {S : Type 0} (region : List S) where
         decodeAt region e i (y .1) >>= λ z.
         ok ((x .0 .0, (x .0 .1, (y .0 .0, (y .0 .1, z .0)))), z .1))
     pairs-then i p = simp (outer, inner, bind-assoc)
+
+  -- four parts, each of which may depend on those before it
+  module _ {A B C D : Type 0} {a : Codec S A} (ha : Advances a) {b : A → Codec S B} (hb : (x : A) → Advances (b x)) {c : A → B → Codec S C}
+      (hc : (x : A) (y : B) → Advances (c x y)) (d : A → B → C → Codec S D) where
+    from-third : (x : A) (y : B) (i p : ℕ) → decodeAt region (sequence (c x y) λ z. d x y z) i p
+        ≡ (decodeAt region (c x y) i p >>= λ z. decodeAt region (d x y (z .0)) i (z .1) >>= λ w. ok ((z .0, w .0), w .1))
+    from-third x y i p = sequence-at (hc x y) (λ z. d x y z) i p
+
+    from-second : (x : A) (i p : ℕ) → decodeAt region (sequence (b x) λ y. sequence (c x y) λ z. d x y z) i p
+        ≡ (decodeAt region (b x) i p >>= λ y. decodeAt region (sequence (c x (y .0)) λ z. d x (y .0) z) i (y .1) >>= λ z. ok ((y .0, z .0), z .1))
+    from-second x i p = sequence-at (hb x) (λ y. sequence (c x y) λ z. d x y z) i p
+
+    from-first : (i p : ℕ) → decodeAt region (sequence a λ x. sequence (b x) λ y. sequence (c x y) λ z. d x y z) i p
+        ≡ (decodeAt region a i p >>= λ x.
+        decodeAt region (sequence (b (x .0)) λ y. sequence (c (x .0) y) λ z. d (x .0) y z) i (x .1) >>= λ y.
+        ok ((x .0, y .0), y .1))
+    from-first i p = sequence-at ha (λ x. sequence (b x) λ y. sequence (c x y) λ z. d x y z) i p
+
+    pub four-at : (i p : ℕ) → decodeAt region (sequence a λ x. sequence (b x) λ y. sequence (c x y) λ z. d x y z) i p
+        ≡ (decodeAt region a i p >>= λ x.
+        decodeAt region (b (x .0)) i (x .1) >>= λ y.
+        decodeAt region (c (x .0) (y .0)) i (y .1) >>= λ z.
+        decodeAt region (d (x .0) (y .0) (z .0)) i (z .1) >>= λ w.
+        ok ((x .0, (y .0, (z .0, w .0))), w .1))
+    four-at i p = simp (from-first, from-second, from-third, bind-assoc)
+
+  -- and a fifth, which does not
+  module _ {A B C D E : Type 0} {a : Codec S A} (ha : Advances a) {b : A → Codec S B} (hb : (x : A) → Advances (b x)) {c : A → B → Codec S C}
+      (hc : (x : A) (y : B) → Advances (c x y)) {d : A → B → C → Codec S D} (hd : (x : A) (y : B) (z : C) → Advances (d x y z)) (e : Codec S E) where
+    through-fourth : (i p : ℕ) → decodeAt region (sequence a λ x. sequence (b x) λ y. sequence (c x y) λ z. sequence (d x y z) λ _. e) i p
+        ≡ (decodeAt region a i p >>= λ x.
+        decodeAt region (b (x .0)) i (x .1) >>= λ y.
+        decodeAt region (c (x .0) (y .0)) i (y .1) >>= λ z.
+        decodeAt region (sequence (d (x .0) (y .0) (z .0)) λ _. e) i (z .1) >>= λ w.
+        ok ((x .0, (y .0, (z .0, w .0))), w .1))
+    through-fourth i p = four-at ha hb hc (λ x y z. sequence (d x y z) λ _. e) i p
+
+    from-fourth : (x : A) (y : B) (z : C) (i p : ℕ) → decodeAt region (sequence (d x y z) λ _. e) i p
+        ≡ (decodeAt region (d x y z) i p >>= λ w. decodeAt region e i (w .1) >>= λ v. ok ((w .0, v .0), v .1))
+    from-fourth x y z i p = sequence-at (hd x y z) (λ _. e) i p
+
+    pub five-at : (i p : ℕ) → decodeAt region (sequence a λ x. sequence (b x) λ y. sequence (c x y) λ z. sequence (d x y z) λ _. e) i p
+        ≡ (decodeAt region a i p >>= λ x.
+        decodeAt region (b (x .0)) i (x .1) >>= λ y.
+        decodeAt region (c (x .0) (y .0)) i (y .1) >>= λ z.
+        decodeAt region (d (x .0) (y .0) (z .0)) i (z .1) >>= λ w.
+        decodeAt region e i (w .1) >>= λ v.
+        ok ((x .0, (y .0, (z .0, (w .0, v .0)))), v .1))
+    five-at i p = simp (through-fourth, from-fourth, bind-assoc)

@@ -1,10 +1,8 @@
 -- Reading a tag 5 payload, by what each of its numbers is read as. Assumes nothing.
 use mathlib.Core.Path.{_≡_, _∙_}
-use mathlib.Core.Logic.{_≢_}
 use mathlib.Core.List.{List}
 use Prim.Native.Nat.{ℕ, _^_, _<_}
 use lib.ListN.{drop}
-use borrow.Author.Tests.{eq-eqb, ne-eqb}
 use Rattle.bpg_codec.specs.Outcome.{Outcome, ok, error, _>>=_, located}
 use Rattle.bpg_codec.specs.Parts.{guarded}
 use Rattle.bpg_codec.specs.Regions.{thenRest, rest}

@@ -57,7 +57,7 @@ sps-chain : (i p : ℕ) (l : List Bool) → spsFields .decode i p l ≡ readSps 
 unfolding spsFields sequence mapped readSps
 sps-chain i p l = simp bind-assoc
 
-fields-chain : (i p : ℕ) (l : List Bool) → headerFields .decode i p l ≡ readFields i p l
+pub fields-chain : (i p : ℕ) (l : List Bool) → headerFields .decode i p l ≡ readFields i p l
 unfolding headerFields fieldSequence mapped sequence fixed readFields
 fields-chain i p l = simp (bind-assoc, sizes-chain, optional-chain, pcm-chain, sps-chain)
 

@@ -71,7 +71,7 @@ block-lawful present = select-lawful present (sized-lawful 2 (ue7-lawful 32) ext
 oneBit-lawful : Lawful Bit oneBit
 oneBit-lawful = mapped-lawful (unsigned-lawful 1) (λ b v. bit-of-bit b) (λ n v. bit-of-number n (omega (arith, v)))
 
-optional-lawful : {A : Type 0} (present : Bool) {c : Codec Bool A} (e : A) → Lawful Bit c → Lawful Bit (optional present c e)
+pub optional-lawful : {A : Type 0} (present : Bool) {c : Codec Bool A} (e : A) → Lawful Bit c → Lawful Bit (optional present c e)
 optional-lawful present e h = select-lawful present h (absent-lawful Bit e)
 
 sizes-lawful : Lawful Bit sizeFields
@@ -80,13 +80,13 @@ sizes-lawful =
     sequence-lawful expGolomb-lawful λ _. sequence-lawful expGolomb-lawful λ _. sequence-lawful expGolomb-lawful λ _.
     sequence-lawful expGolomb-lawful λ _. expGolomb-lawful
 
-pcm-lawful : Lawful Bit pcmFields
+pub pcm-lawful : Lawful Bit pcmFields
 unfolding pcmFields
 pcm-lawful =
     sequence-lawful (unsigned-lawful 4) λ _. sequence-lawful (unsigned-lawful 4) λ _. sequence-lawful expGolomb-lawful λ _.
     sequence-lawful expGolomb-lawful λ _. oneBit-lawful
 
-sps-lawful : Lawful Bit spsFields
+pub sps-lawful : Lawful Bit spsFields
 unfolding spsFields
 sps-lawful = sequence-lawful oneBit-lawful λ _. unsigned-lawful 7
 

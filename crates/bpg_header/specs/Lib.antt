@@ -1,2 +1,4 @@
 -- What the readers of a HEVC header answer.
 pub mod Fields
+pub mod AllFields
+pub mod Headers

@@ -1,3 +1,7 @@
 // The HEVC header of a BPG file: its fields, and the rules that they keep.
+mod all_fields;
 pub mod fields;
+pub mod header;
 pub mod range_flags;
+mod rules;
+mod trailing;

@@ -1,6 +1,5 @@
 -- `entry::with_size` meets its contract: each way out is a case of what follows the two numbers. Assumes nothing.
 use mathlib.Core.Path.{_≡_, sym, ap, _∙_}
-use mathlib.Core.Bool.{Bool}
 use mathlib.Core.List.{List}
 use Prim.Native.Nat.{ℕ, _+_, _-_, _≤_}
 use native.Mathlib.Omega.{arith}
@@ -11,7 +10,7 @@ use Rattle.bpg_codec.proofs.Lists.{take-drop}
 use Rattle.bpg_codec.proofs.Tokens.{all-bytes, all-take, all-drop}
 use Rattle.bpg_format.specs.FileCodec.{loopNumbers}
 use Rattle.bpg_entries.specs.declared.animation.Animation.{Animation}
-use Rattle.bpg_entries.specs.Entries.{refusedStep, foundStep}
+use Rattle.bpg_entries.specs.Entries.{foundStep}
 use Rattle.bpg_entries.specs.Animations.{animationAnswer}
 use Rattle.bpg_entries.proofs.EntryLaws.{too-long, plain, second, loop-refused, loop-read}
 use Rattle.bpg_entries.proofs.entry.with_size.Statement.{statement}

@@ -5,10 +5,8 @@ use mathlib.Core.List.{List}
 use Prim.Native.Nat.{ℕ}
 use Rattle.bpg_codec.specs.Outcome.{ok}
 use Rattle.bpg_codec.specs.Codec.{decodeAt}
-use Rattle.bpg_numbers.specs.BitNumbers.{regionBits, unsigned, expGolomb}
+use Rattle.bpg_numbers.specs.BitNumbers.{regionBits, expGolomb}
 use Rattle.bpg_numbers.specs.Answers.{bitOutcome}
-use Rattle.bpg_format.specs.FileCodec.{oneBit}
-use Rattle.bpg_header.specs.Fields.{codePair, depthPair, flagOutcome, pairOutcome}
 use Rattle.bpg_header.proofs.FieldLaws.{codes-at}
 use borrow.Author.Needs.{needs}
 use Rattle.bpg_header.proofs.fields.read_codes.Statement.{statement}

@@ -1,14 +1,6 @@
 -- `fields::read_flag` meets its contract: one bit, as a flag. Assumes nothing.
-use mathlib.Core.Path.{_≡_, sym, ap, _∙_}
-use mathlib.Core.Bool.{Bool}
-use mathlib.Core.List.{List}
-use Prim.Native.Nat.{ℕ}
-use Rattle.bpg_codec.specs.Outcome.{ok}
-use Rattle.bpg_codec.specs.Codec.{decodeAt}
-use Rattle.bpg_numbers.specs.BitNumbers.{regionBits, unsigned, expGolomb}
+use mathlib.Core.Path.{sym, ap, _∙_}
 use Rattle.bpg_numbers.specs.Answers.{bitOutcome}
-use Rattle.bpg_format.specs.FileCodec.{oneBit}
-use Rattle.bpg_header.specs.Fields.{codePair, depthPair, flagOutcome, pairOutcome}
 use Rattle.bpg_header.proofs.FieldLaws.{flag-at}
 use borrow.Author.Needs.{needs}
 use Rattle.bpg_header.proofs.fields.read_flag.Statement.{statement}

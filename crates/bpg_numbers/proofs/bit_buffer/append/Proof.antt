@@ -1,12 +1,12 @@
 -- `bit_buffer::append` meets its contract. The invariant: storing the bits that are left gives what storing all of them does.
 -- Assumes nothing.
-use Prim.Native.Nat.{ℕ, suc, min, _+_, _-_, _*_, _/_, _%_, _^_, _≤_, _<_}
-use mathlib.Core.Path.{_≡_, refl, sym, ap, _∙_}
+use Prim.Native.Nat.{ℕ, suc, _+_, _-_, _/_, _%_, _^_, _≤_, _<_}
+use mathlib.Core.Path.{_≡_, sym, ap, _∙_}
 use mathlib.Core.List.{List}
 use native.Mathlib.Omega.{arith}
 use lib.ListN.{length, getD, set, length-set, length-map}
 use borrow.Author.Needs.{needs}
-use Rattle.bpg_codec.specs.Bits.{bits, bitAt, bit, withBit}
+use Rattle.bpg_codec.specs.Bits.{bits, withBit}
 use Rattle.bpg_codec.proofs.Bits.{bit-of-number, length-bits}
 use Rattle.bpg_numbers.specs.declared.bit_buffer.BitBuffer.{BitBuffer}
 use Rattle.bpg_numbers.specs.BitBuffer.{storeBits, appended}

@@ -1,9 +1,9 @@
 -- `bit_buffer::write` meets its contract: as many bytes as the bits take, of the 64. Assumes nothing.
-use Prim.Native.Nat.{ℕ, min, _+_, _/_, _≤_}
-use mathlib.Core.Path.{_≡_, sym, ap, _∙_}
+use Prim.Native.Nat.{ℕ, min, _+_, _/_}
+use mathlib.Core.Path.{_≡_, sym, _∙_}
 use mathlib.Core.List.{List}
 use native.Mathlib.Omega.{arith}
-use lib.ListN.{length, take, length-map, length-take}
+use lib.ListN.{length, take, length-map}
 use lib.Seq.{take-all, length-take-le}
 use Rattle.bpg_codec.specs.Bits.{bytesFor}
 use Rattle.bpg_codec.proofs.Lists.{either-way}

@@ -1,6 +1,6 @@
 -- `bits::count` meets its contract. Assumes nothing.
 use Prim.Native.Nat.{ℕ, min, _*_, _^_}
-use mathlib.Core.Path.{_≡_, ap, sym, _∙_}
+use mathlib.Core.Path.{_≡_}
 use mathlib.Core.List.{List}
 use native.Mathlib.Omega.{arith}
 use lib.ListN.{length, take, length-take}

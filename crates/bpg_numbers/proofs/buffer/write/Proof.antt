@@ -6,7 +6,7 @@ use native.Mathlib.Nat.{add-sub-cancel-left}
 use native.Mathlib.Omega.{arith}
 use lib.ListN.{length, take, drop}
 use lib.Seq.{drop-drop}
-use Rattle.bpg_codec.specs.Buffer.{splice, written, writtenEnd}
+use Rattle.bpg_codec.specs.Buffer.{written, writtenEnd}
 use Rattle.bpg_codec.proofs.Buffer.{stored, refused}
 use borrow.Author.Needs.{needs}
 use Rattle.bpg_numbers.proofs.buffer.write.Statement.{statement}

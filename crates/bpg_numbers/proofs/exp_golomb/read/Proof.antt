@@ -7,8 +7,8 @@ use mathlib.Core.List.{List, _∷_}
 use native.Mathlib.Omega.{arith}
 use lib.ListN.{length, drop, getD, drop-of-length-le}
 use borrow.Author.Needs.{needs}
-use Rattle.bpg_codec.specs.Outcome.{Outcome, error, _>>=_, located}
-use Rattle.bpg_codec.specs.Bits.{bit, unpack}
+use Rattle.bpg_codec.specs.Outcome.{Outcome, error, located}
+use Rattle.bpg_codec.specs.Bits.{bit}
 use Rattle.bpg_codec.proofs.Bits.{bit-is-one, bit-not-one}
 use Rattle.bpg_codec.proofs.Lists.{drop-next}
 use Rattle.bpg_numbers.specs.BitNumbers.{regionBits, prefixDecode, expGolombSuffix, expGolomb}

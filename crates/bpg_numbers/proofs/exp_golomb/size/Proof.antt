@@ -1,9 +1,8 @@
 -- `exp_golomb::size` meets its contract. Assumes nothing.
-use Prim.Native.Nat.{ℕ, _-_, _^_, _<_}
-use mathlib.Core.Path.{_≡_, sym, ap, _∙_}
+use Prim.Native.Nat.{_-_}
+use mathlib.Core.Path.{sym, ap}
 use native.Mathlib.Omega.{arith}
 use lib.ListN.{length}
-use Rattle.bpg_numbers.specs.BitNumbers.{expGolombBits}
 use Rattle.bpg_numbers.proofs.BitNumberLaws.{top, expGolomb-size, expGolomb-none}
 use borrow.Author.Needs.{needs}
 use Rattle.bpg_numbers.proofs.exp_golomb.size.Statement.{statement}

@@ -1,7 +1,7 @@
 -- `ue7::read` meets its contract. The invariant: the value so far is within the limit, and reading on from the next byte gives
 -- what reading from the start does. Assumes nothing.
 use Prim.Native.Nat.{ℕ, min, _+_, _-_, _*_, _%_, _^_, _≤_, _<_}
-use mathlib.Core.Path.{_≡_, refl, sym, ap, _∙_}
+use mathlib.Core.Path.{_≡_, sym, _∙_}
 use mathlib.Core.List.{List, _∷_}
 use native.Mathlib.Omega.{arith}
 use lib.ListN.{length, drop, getD, drop-of-length-le}

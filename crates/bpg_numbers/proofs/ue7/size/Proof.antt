@@ -1,5 +1,5 @@
 -- `ue7::size` meets its contract: the count so far and the groups that are left make up the length. Assumes nothing.
-use Prim.Native.Nat.{_+_, _/_, _≤_}
+use Prim.Native.Nat.{_+_}
 use mathlib.Core.Path.{_≡_, ap, _∙_}
 use native.Mathlib.Omega.{arith}
 use lib.ListN.{length}

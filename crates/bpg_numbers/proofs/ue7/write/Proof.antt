@@ -2,12 +2,12 @@
 -- next place on, are as they were where the loop began, and the bytes before that place are untouched. Assumes nothing.
 use Prim.Native.Nat.{ℕ, suc, _+_, _-_, _/_, _%_, _≤_, _<_}
 use mathlib.Core.Path.{_≡_, refl, sym, ap, ap₂, _∙_}
-use mathlib.Core.List.{List, [], _∷_, _++_, append-assoc}
+use mathlib.Core.List.{List, _∷_, _++_, append-assoc}
 use native.Mathlib.Omega.{arith}
 use borrow.Author.Needs.{needs}
 use lib.ListN.{length, take, drop, set, length-set, take-append-drop}
 use lib.Seq.{take-set-le, take-take, drop-cons, drop-set-lt, getD-set-same, lt-length-set}
-use Rattle.bpg_codec.specs.Buffer.{splice, written, writtenEnd}
+use Rattle.bpg_codec.specs.Buffer.{splice}
 use Rattle.bpg_codec.proofs.Buffer.{stored, refused}
 use Rattle.bpg_numbers.specs.Ue7.{ue7Bytes}
 use Rattle.bpg_numbers.proofs.Ue7Laws.{high, high-zero, high-more, bytes-high, size-high, size-bytes, size-positive}

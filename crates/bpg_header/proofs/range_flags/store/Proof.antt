@@ -1,24 +1,23 @@
--- `range_flags::spread` meets its contract: the flags up to k are the number's bits up to k. Assumes nothing.
+-- `range_flags::store` meets its contract: the flags up to k are the number's bits up to k. Assumes nothing.
 use mathlib.Core.Path.{_≡_, refl, sym, ap, _∙_}
 use mathlib.Core.Bool.{Bool, false}
-use mathlib.Core.List.{List, [], _∷_, _++_}
-use Prim.Native.Nat.{ℕ, suc, _+_, _-_, _/_, _%_, _^_, _≤_, _<_}
+use mathlib.Core.List.{List}
+use Prim.Native.Nat.{ℕ, suc, _+_, _-_, _≤_, _<_}
 use native.Mathlib.Omega.{arith}
-use lib.Dec.{eqb}
-use lib.ListN.{length, take, getD, set, length-set}
+use lib.ListN.{length, take, set, length-set}
 use lib.Seq.{take-all, take-suc, take-suc-set}
 use borrow.Author.Needs.{needs}
 use Rattle.bpg_codec.specs.Bits.{bits, bitAt}
 use Rattle.bpg_codec.proofs.Bits.{length-bits, getD-bits}
-use Rattle.bpg_header.specs.Fields.{foundFlags}
-use Rattle.bpg_header.proofs.range_flags.spread.Statement.{statement}
-use Rattle.bpg_header.proofs.range_flags.spread.Tie as tie
+use Rattle.bpg_header.specs.Fields.{withFlags}
+use Rattle.bpg_header.proofs.range_flags.store.Statement.{statement}
+use Rattle.bpg_header.proofs.range_flags.store.Tie as tie
 
 abbrev Inv-loop : tie.InvT-loop
-Inv-loop value next flags₀ k₀ flags k = (k ≤ 9) × (length flags ≡ 9) × (take k flags ≡ take k (bits 9 value))
+Inv-loop header value flags₀ k₀ flags k = (k ≤ 9) × (length flags ≡ 9) × (take k flags ≡ take k (bits 9 value))
 
 abbrev μ-loop : tie.MeasureT-loop
-μ-loop value next flags₀ k₀ flags k = 9 - k
+μ-loop header value flags₀ k₀ flags k = 9 - k
 
 more : (value k : ℕ) (flags : List Bool) → k < 9 → length flags ≡ 9 → take k flags ≡ take k (bits 9 value)
     → take (k + 1) (set flags k (bitAt value (8 - k))) ≡ take (k + 1) (bits 9 value)
@@ -61,10 +60,10 @@ returns : tie.Need-returns Inv-loop μ-loop
 returns c =
     let l = c .before .loop in
     let v = c .before .before .args .value in
-    ap (λ (f : List Bool). foundFlags f (c .before .before .args .next)) (all v (l .k) (l .flags) (c .loop-test .left) (l .inv .1) (l .inv .2))
+    ap (withFlags (c .before .before .args .header)) (all v (l .k) (l .flags) (c .loop-test .left) (l .inv .1) (l .inv .2))
 
-pub spread-spec : {M : Type 1} → statement M
-spread-spec =
+pub store-spec : {M : Type 1} → statement M
+store-spec =
     tie.close
     (tie.spec
     Inv-loop

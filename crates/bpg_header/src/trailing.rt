@@ -1,0 +1,27 @@
+// The bits after a header's last field.
+use bpg_numbers::BitPos;
+use bpg_numbers::bits;
+use bpg_numbers::bits::BitNumber;
+ghost use mathlib.Core.Path.{_≡_};
+ghost use lib.ListN.{drop};
+ghost use Rattle.bpg_numbers.specs.BitNumbers.{regionBits};
+ghost use Rattle.bpg_header.specs.Headers.{isPadding};
+
+// From `at` on there are 0 to 7 bits, all zero.
+pub fn is_padding(region: &[u8], at: BitPos) -> bool
+    ensures { λ r. ⌜ r ≡ isPadding (drop (at .0) (regionBits (now (region .entry)))) ⌝ }
+{
+    let end = bits::count(region);
+    let start = at.0;
+    if end <= start {
+        return true;
+    }
+    let left = end - start;
+    if 8 <= left {
+        return false;
+    }
+    match bits::read(region, at, left as u32) {
+        BitNumber::Missing => false,
+        BitNumber::Value(value, next) => value == 0,
+    }
+}
