@@ -92,7 +92,7 @@ fields-refuse =
     next one λ _. next one λ sps. next (opt sps noSps (next one λ _. field 7)) λ x.
     opt (x .0) (replicate 9 false) (fixed-refuses Numbered Bit 9 15 atItem (λ _. omega arith)))
 
-header-refuses : (depth : ℕ) → C (header depth)
+pub header-refuses : (depth : ℕ) → CodecRefuses Numbered (header depth)
 unfolding header
 header-refuses depth =
     guarded-refuses Numbered (hevcAllowed depth) 16 atOwn (λ _. omega arith)

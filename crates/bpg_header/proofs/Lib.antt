@@ -4,3 +4,4 @@ pub mod AllFieldLaws
 pub mod RuleLaws
 pub mod PaddingLaws
 pub mod HeaderLaws
+pub mod BothHeaderLaws

@@ -2,3 +2,4 @@
 pub mod Fields
 pub mod AllFields
 pub mod Headers
+pub mod BothHeaders

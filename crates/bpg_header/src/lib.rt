@@ -2,6 +2,7 @@
 mod all_fields;
 pub mod fields;
 pub mod header;
+pub mod headers;
 pub mod range_flags;
 mod rules;
 mod trailing;

@@ -1,0 +1,48 @@
+-- `headers::read` meets its contract. Assumes nothing.
+use mathlib.Core.Path.{_∙_}
+use Rattle.bpg_header.proofs.BothHeaderLaws.{alpha-refused, color-refused, both-read}
+use borrow.Author.Needs.{needs}
+use Rattle.bpg_header.proofs.headers.read.Statement.{statement}
+use Rattle.bpg_header.proofs.headers.read.Tie as tie
+
+alpha-header-requires : tie.Need-alpha-header-requires
+alpha-header-requires c κs = search needs
+
+refused-requires : tie.Need-refused-requires
+refused-requires c κs = search needs
+
+returns : tie.Need-returns
+returns c =
+    let a = c .before .before .before in
+    c .refused .ensures ∙ alpha-refused _ _ _ _ (a .alpha-header .result) (a .alpha-header .ensures) (c .before .if1 .taken)
+
+read-requires : tie.Need-read-requires
+read-requires c κs = search needs
+
+refused-requires-2 : tie.Need-refused-requires-2
+refused-requires-2 c κs = search needs
+
+returns-2 : tie.Need-returns-2
+returns-2 c =
+    let t = c .before .before .before in
+    let a = t .before .before .before in
+    c .refused2 .ensures
+    ∙ color-refused _ _ _ _ (a .alpha-header .result) (a .alpha-header .ensures) (t .before .if1 .left) (t .read .result) (t .read .ensures) (c .before .if2 .taken)
+
+returns-3 : tie.Need-returns-3
+returns-3 c =
+    let t = c .before .before .before .before in
+    let a = t .before .before .before in
+    both-read _ _ _ _ (a .alpha-header .result) (a .alpha-header .ensures) (t .before .if1 .left) (t .read .result) (t .read .ensures) (c .before .before .if2 .left)
+
+pub read-spec : {M : Type 1} → statement M
+read-spec =
+    tie.close
+    (tie.spec
+    alpha-header-requires
+    refused-requires
+    returns
+    read-requires
+    refused-requires-2
+    returns-2
+    returns-3)

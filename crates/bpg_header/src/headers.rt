@@ -1,0 +1,70 @@
+// The HEVC headers of a file: the alpha plane's where it has one, then the colour's.
+use crate::header;
+use crate::header::HeaderReading;
+use bpg_format::Header;
+use bpg_format::zero_header;
+use bpg_numbers::BytePos;
+ghost use mathlib.Core.Path.{_≡_};
+ghost use Rattle.bpg_header.specs.Headers.{headerAnswer};
+ghost use Rattle.bpg_header.specs.BothHeaders.{alphaIn, refusedHeaders, headersAnswer, headersIn};
+
+// Status 0, the two headers (the alpha plane's is zero where there is none), and the offset after them; or a refusal and zeros.
+pub struct HeadersReading {
+    pub status: u8,
+    pub offset: usize,
+    pub alpha: Header,
+    pub color: Header,
+    pub next: usize,
+}
+
+fn refused(status: u8, offset: usize) -> HeadersReading
+    ensures { λ r. ⌜ r ≡ refusedHeaders status offset ⌝ }
+{
+    let header = zero_header();
+    HeadersReading {
+        status,
+        offset,
+        alpha: header,
+        color: header,
+        next: 0,
+    }
+}
+
+// The alpha plane's header where it is there, and zeros where it is not.
+fn alpha_header(file: &[u8], at: BytePos, present: bool, depth: u8) -> HeaderReading
+    ensures { λ r. ⌜ r ≡ headerAnswer (alphaIn (now (file .entry)) present depth (at .0)) ⌝ }
+{
+    if present {
+        return header::read(file, at, depth);
+    }
+    let header = zero_header();
+    HeaderReading {
+        status: 0,
+        offset: 0,
+        header,
+        next: at.0,
+    }
+}
+
+// The headers from `at` on; `depth` is the file's bit depth. A file that is too long is refused.
+pub fn read(file: &[u8], at: BytePos, alpha: bool, depth: u8) -> HeadersReading
+    ensures { λ r. ⌜ r ≡ headersAnswer (headersIn (now (file .entry)) alpha depth (at .0)) ⌝ }
+{
+    let first = alpha_header(file, at, alpha, depth);
+    if first.status != 0 {
+        return refused(first.status, first.offset);
+    }
+    let second = header::read(file, BytePos(first.next), depth);
+    if second.status != 0 {
+        return refused(second.status, second.offset);
+    }
+    let alpha_header = first.header;
+    let color_header = second.header;
+    HeadersReading {
+        status: 0,
+        offset: 0,
+        alpha: alpha_header,
+        color: color_header,
+        next: second.next,
+    }
+}
