@@ -83,13 +83,23 @@ module _ (l : List ℕ) where
           unfolding readFlags
           no-space h = rw (le-leb 6 (length l) six, m, le-leb _ _ f, le-leb _ _ d, h)
 
-          pub all-kept : colorSpaceAllowed (flagsOf byte4 byte5) ≡ true → flagsAnswer (ok (flagsOf byte4 byte5)) ≡ flagsAnswer (readFlags l)
+          -- the last flag is what the byte leaves
+          pub all-kept : colorSpaceAllowed (flagsOf byte4 byte5) ≡ true
+              → record {
+                status = 0;
+                offset = 0;
+                «pixel_format» = byte4 / 32;
+                «alpha1_flag» = flag byte4 16;
+                «bit_depth_minus_8» = byte4 % 16;
+                «color_space» = byte5 / 16;
+                «extension_present_flag» = flag byte5 8;
+                «alpha2_flag» = flag byte5 4;
+                «limited_range_flag» = flag byte5 2;
+                «animation_flag» = eqb (byte5 % 2) 1;
+              }
+              ≡ flagsAnswer (readFlags l)
           unfolding readFlags
-          all-kept h = rw (le-leb 6 (length l) six, m, le-leb _ _ f, le-leb _ _ d, h)
-
--- the lowest flag is what the byte leaves
-pub lowest : (b : ℕ) → eqb (b % 2) 1 ≡ flag b 1
-lowest b = let e : b % 2 ≡ b / 1 % 2 = omega arith in rw e
+          all-kept h = let e : byte5 / 1 % 2 ≡ byte5 % 2 = omega arith in rw (le-leb 6 (length l) six, m, le-leb _ _ f, le-leb _ _ d, h, e)
 
 -- ---- what an answer tells of the bytes
 

@@ -3,12 +3,12 @@ use mathlib.Core.Path.{_≡_, sym, _∙_}
 use mathlib.Core.Bool.{true}
 use mathlib.Core.List.{List}
 use Prim.Native.Nat.{ℕ}
-use lib.ListN.{take, getD}
+use lib.ListN.{take}
 use borrow.Author.Tests.{not-true, not-false}
 use borrow.Author.Needs.{needs}
 use Rattle.bpg_codec.specs.Parts.{same}
 use Rattle.bpg_format.specs.Syntax.{magic}
-use Rattle.bpg_head.proofs.FlagLaws.{too-short, no-magic, no-format, no-depth, no-space, all-kept, lowest}
+use Rattle.bpg_head.proofs.FlagLaws.{too-short, no-magic, no-format, no-depth, no-space, all-kept}
 use Rattle.bpg_head.proofs.flags.read.Statement.{statement}
 use Rattle.bpg_head.proofs.flags.read.Tie as tie
 
@@ -82,9 +82,8 @@ returns-6 c =
     let d = s .before in
     let f = d .before in
     let m = f .before .before .before in
-    rw (lowest (getD (file m) 5 0))
-    (all-kept (file m) (m .before .before .if1 .left) (has-magic m) (f .if3 .left) (d .if4 .left)
-    (sym (s .color-space-allowed .ensures) ∙ not-false _ (c .if5 .left)))
+    all-kept (file m) (m .before .before .if1 .left) (has-magic m) (f .if3 .left) (d .if4 .left)
+    (sym (s .color-space-allowed .ensures) ∙ not-false _ (c .if5 .left))
 
 pub read-spec : {M : Type 1} → statement M
 read-spec =
