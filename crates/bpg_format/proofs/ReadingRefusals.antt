@@ -107,7 +107,7 @@ body-refuses f =
 
 -- ---- the file
 
-read-flags : (l : List ℕ) → Refuses Numbered (readFlags l)
+pub read-flags : (l : List ℕ) → Refuses Numbered (readFlags l)
 unfolding readFlags
 read-flags l =
     let f = flagsOf (getD l 4 0) (getD l 5 0) in

@@ -1,0 +1,104 @@
+// Magic, byte 4 and byte 5.
+ghost use mathlib.Core.Path.{_≡_};
+ghost use mathlib.Core.Bool.{not, _&&_, _||_};
+ghost use Prim.Native.Nat.{_≤_};
+ghost use lib.Dec.{leb, eqb};
+ghost use lib.ListN.{length, take};
+ghost use Rattle.bpg_codec.specs.Parts.{same};
+ghost use Rattle.bpg_format.specs.Syntax.{magic};
+ghost use Rattle.bpg_format.specs.FileCodec.{readFlags};
+ghost use Rattle.bpg_head.specs.FlagBytes.{refusedFlags, flagsAnswer};
+
+// Status 0 and the fields of the two bytes; or a refusal and zeros.
+pub struct Flags {
+    pub status: u8,
+    pub offset: usize,
+    pub pixel_format: u8,
+    pub alpha1_flag: bool,
+    pub bit_depth_minus_8: u8,
+    pub color_space: u8,
+    pub extension_present_flag: bool,
+    pub alpha2_flag: bool,
+    pub limited_range_flag: bool,
+    pub animation_flag: bool,
+}
+
+fn refused(status: u8, offset: usize) -> Flags
+    ensures { λ r. ⌜ r ≡ refusedFlags status offset ⌝ }
+{
+    Flags {
+        status,
+        offset,
+        pixel_format: 0,
+        alpha1_flag: false,
+        bit_depth_minus_8: 0,
+        color_space: 0,
+        extension_present_flag: false,
+        alpha2_flag: false,
+        limited_range_flag: false,
+        animation_flag: false,
+    }
+}
+
+fn has_magic(file: &[u8]) -> bool
+    requires { ⌜ 4 ≤ length (now file) ⌝ }
+    ensures { λ r. ⌜ r ≡ same magic (take 4 (now (file .entry))) ⌝ }
+{
+    if file[0] != 0x42 {
+        return false;
+    }
+    if file[1] != 0x50 {
+        return false;
+    }
+    if file[2] != 0x47 {
+        return false;
+    }
+    file[3] == 0xfb
+}
+
+// A colour space is 0 to 4, and 0 in a gray picture.
+fn color_space_allowed(pixel_format: u8, color_space: u8) -> bool
+    ensures { λ r. ⌜ r ≡ (leb «color_space» 4 && (not (eqb «pixel_format» 0) || eqb «color_space» 0)) ⌝ }
+{
+    if 4 < color_space {
+        return false;
+    }
+    if pixel_format != 0 {
+        return true;
+    }
+    color_space == 0
+}
+
+pub fn read(file: &[u8]) -> Flags
+    ensures { λ r. ⌜ r ≡ flagsAnswer (readFlags (now (file .entry))) ⌝ }
+{
+    if file.len() < 6 {
+        return refused(2, 0);
+    }
+    if !has_magic(file) {
+        return refused(3, 0);
+    }
+    let byte4 = file[4];
+    let byte5 = file[5];
+    if 5 < byte4 / 32 {
+        return refused(4, 4);
+    }
+    if 6 < byte4 % 16 {
+        return refused(5, 4);
+    }
+    if !color_space_allowed(byte4 / 32, byte5 / 16) {
+        return refused(6, 5);
+    }
+    Flags {
+        status: 0,
+        offset: 0,
+        pixel_format: byte4 / 32,
+        alpha1_flag: byte4 / 16 % 2 == 1,
+        bit_depth_minus_8: byte4 % 16,
+        color_space: byte5 / 16,
+        extension_present_flag: byte5 / 8 % 2 == 1,
+        alpha2_flag: byte5 / 4 % 2 == 1,
+        limited_range_flag: byte5 / 2 % 2 == 1,
+        animation_flag: byte5 % 2 == 1,
+    }
+}
