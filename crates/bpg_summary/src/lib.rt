@@ -1,0 +1,3 @@
+// The line of text that shows a file's particulars.
+pub mod line;
+mod line_buffer;
