@@ -5,12 +5,12 @@ use mathlib.Core.List.{List}
 use Prim.Native.Nat.{ℕ, _+_, _-_, _≤_}
 use native.Mathlib.Omega.{arith}
 use lib.Dec.{leb, leb→le}
-use lib.ListN.{length, drop, length-drop}
+use lib.ListN.{length, take, drop, length-drop}
 use lib.Seq.{drop-drop}
 use Rattle.bpg_codec.specs.Select.{select}
 use Rattle.bpg_codec.specs.Outcome.{Outcome, ok, error, _>>=_, located}
-use Rattle.bpg_codec.specs.Codec.{Codec, decodeAt}
-use Rattle.bpg_codec.specs.Parts.{sequence, mapped, guarded, absent, fixed}
+use Rattle.bpg_codec.specs.Codec.{Codec, Exact, decodeAt}
+use Rattle.bpg_codec.specs.Parts.{sequence, mapped, guarded, sized, item, absent, fixed}
 use Rattle.bpg_codec.proofs.Outcome.{ok-injective, unbind, unguard, bind-assoc}
 
 -- r is what is left of l where p has become q
@@ -43,12 +43,14 @@ relocate {S} region (ok x) h = ap (λ (r : List S). ok (x .0, x .1, r)) (h x ref
 relocate region (error s o) h = refl
 
 module _ {S A : Type 0} {c : Codec S A} (hc : Advances c) (region : List S) (i p : ℕ) where
-  pub at-offset : c .decode i p (drop p region) ≡ (located (c .decode i p (drop p region)) >>= λ x. ok (x .0, x .1, drop (x .1) region))
-  at-offset =
-      relocate region (c .decode i p (drop p region)) λ x e.
+  pub left-after : (x : A × ℕ × List S) → c .decode i p (drop p region) ≡ ok x → x .2 ≡ drop (x .1) region
+  left-after x e =
       let s = hc .advances i p (drop p region) x e in
       let n : p + (x .1 - p) ≡ x .1 = omega (arith, s .forward) in
       s .left ∙ drop-drop (x .1 - p) p region ∙ ap (λ (k : ℕ). drop k region) n
+
+  pub at-offset : c .decode i p (drop p region) ≡ (located (c .decode i p (drop p region)) >>= λ x. ok (x .0, x .1, drop (x .1) region))
+  at-offset = relocate region (c .decode i p (drop p region)) left-after
 
   pub within : p ≤ length region → (x : A × ℕ × List S) → c .decode i p (drop p region) ≡ ok x → x .1 ≤ length region
   within h x e = omega (arith, hc .advances i p (drop p region) x e .inside, length-drop p region)
@@ -98,6 +100,22 @@ pub select-advances : {S A : Type 0} {c d : Codec S A} (b : Bool) → Advances c
 unfolding select
 select-advances true hc hd = hc
 select-advances false hc hd = hd
+
+pub sized-advances : {S A : Type 0} {c : Codec S ℕ} (status : ℕ) → Advances c → (w : Exact S A) → Advances (sized status c w)
+unfolding sized
+sized-advances {S} {A} {c} status hc w =
+    record {
+      advances = λ i p l x e.
+          unbind (c .decode i p l) _ e λ y e1 e2.
+          unguard (leb (y .0) (length (y .2))) status p _ e2 λ h e3.
+          unbind (w .decode i (y .1) (take (y .0) (y .2))) _ e3 λ a e4 e5.
+          subst (λ (z : A × ℕ × List S). Advanced p l (z .1) (z .2)) (ok-injective e5)
+          (advanced-then (hc .advances i p l y e1) (moved (y .1) (y .2) (y .0) (leb→le (y .0) (length (y .2)) h)));
+    }
+
+pub item-advances : {S A : Type 0} {c : Codec S A} → Advances c → Advances (item c)
+unfolding item
+item-advances hc = record { advances = λ i p l x e. hc .advances p p l x e }
 
 pub fixed-advances : {S : Type 0} (Token : S → Type 0) (n status : ℕ) (offset : ℕ → ℕ → ℕ) → Advances (fixed Token n status offset)
 unfolding fixed

@@ -23,7 +23,7 @@ pub struct Block {
     pub animation: Animation,
 }
 
-fn refused(status: u8, offset: usize) -> Block
+pub fn refused(status: u8, offset: usize) -> Block
     ensures { λ r. ⌜ r ≡ refusedBlock status offset ⌝ }
 {
     let entry = zero_entry();

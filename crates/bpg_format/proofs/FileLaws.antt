@@ -111,7 +111,7 @@ alphaHeader-lawful : (f : Flags) → Lawful Byte (alphaHeader f)
 unfolding alphaHeader
 alphaHeader-lawful f = select-lawful (hasAlpha f) (header-lawful (bitDepth f)) (absent-lawful Byte zeroHeader)
 
-body-lawful : (f : Flags) → ExactLawful Byte (body f)
+pub body-lawful : (f : Flags) → ExactLawful Byte (body f)
 unfolding body
 body-lawful f = thenRest-lawful (alphaHeader-lawful f) λ _. thenRest-lawful (header-lawful (bitDepth f)) λ _. rest-lawful Byte
 

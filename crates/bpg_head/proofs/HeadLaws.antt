@@ -2,12 +2,13 @@
 use mathlib.Core.Path.{_≡_, sym, ap, subst}
 use mathlib.Core.Bool.{Bool, true, false}
 use mathlib.Core.List.{List}
-use Prim.Native.Nat.{ℕ, _+_, _-_, _^_, _≤_, _<_}
+use Prim.Native.Nat.{ℕ, _+_, _-_, _/_, _%_, _^_, _≤_, _<_}
 use native.Mathlib.Omega.{arith}
 use lib.Dec.{leb, leb→le}
-use lib.ListN.{length, drop, length-drop}
+use lib.ListN.{length, take, drop, getD, length-drop}
 use Rattle.bpg_codec.specs.Select.{select}
 use Rattle.bpg_codec.specs.Outcome.{ok}
+use Rattle.bpg_codec.specs.Parts.{same}
 use Rattle.bpg_codec.specs.Lawful.{All, Byte}
 use Rattle.bpg_codec.proofs.Outcome.{ok-injective, unbind, unguard}
 use Rattle.bpg_codec.proofs.Positions.{Advanced, advanced-then}
@@ -16,12 +17,14 @@ use Rattle.bpg_numbers.specs.Ue7.{ue7Bytes, notZero}
 use Rattle.bpg_numbers.proofs.Advances.{ue7-advances, ue7-limit}
 use Rattle.bpg_numbers.proofs.Ue7Laws.{ue7-lawful}
 use Rattle.bpg_format.specs.Content.{Flags}
-use Rattle.bpg_format.specs.FileCodec.{readFlags}
+use Rattle.bpg_format.specs.Syntax.{magic}
+use Rattle.bpg_format.specs.FileCodec.{flagsOf, colorSpaceAllowed, readFlags}
 use Rattle.bpg_format.specs.Read.{number}
 use Rattle.bpg_head.specs.Heads.{HeadFields, readHead, readExtensionLength}
 
 pub record HeadFacts (l : List ℕ) (h : HeadFields) : Type 0 where
   pub end-inside : h .end ≤ length l
+  pub depth-limit : h .flags .bitDepthMinus8 ≤ 6
   pub width-limit : h .width < 2 ^ 32
   pub height-limit : h .height < 2 ^ 32
   pub data-length-limit : h .dataLength < 2 ^ 32
@@ -52,7 +55,7 @@ module _ (p : ℕ) (l : List ℕ) (x : ℕ × ℕ × List ℕ) where
 -- ---- the extension length, there or not
 
 module _ (p : ℕ) (l : List ℕ) (x : ℕ × ℕ × List ℕ) where
-  optional-advanced : (t : Bool) → readExtensionLength t p l ≡ ok x → Advanced p l (x .1) (x .2)
+  pub optional-advanced : (t : Bool) → readExtensionLength t p l ≡ ok x → Advanced p l (x .1) (x .2)
   unfolding select
   optional-advanced true e = advanced p l x e
   optional-advanced false e =
@@ -75,6 +78,17 @@ module _ (p : ℕ) (l : List ℕ) (x : ℕ × ℕ × List ℕ) where
 six-bytes : (l : List ℕ) (f : Flags) → readFlags l ≡ ok f → 6 ≤ length l
 unfolding readFlags
 six-bytes l f e = unguard (leb 6 (length l)) 2 0 _ e λ t _. leb→le 6 (length l) t
+
+depth-small : (l : List ℕ) (f : Flags) → readFlags l ≡ ok f → f .bitDepthMinus8 ≤ 6
+unfolding readFlags
+depth-small l f e =
+    let b4 = getD l 4 0 in
+    unguard (leb 6 (length l)) 2 0 _ e λ _ e1.
+    unguard (same magic (take 4 l)) 3 0 _ e1 λ _ e2.
+    unguard (leb (b4 / 32) 5) 4 4 _ e2 λ _ e3.
+    unguard (leb (b4 % 16) 6) 5 4 _ e3 λ t e4.
+    unguard (colorSpaceAllowed (flagsOf b4 (getD l 5 0))) 6 5 _ e4 λ _ e5.
+    subst (λ (g : Flags). g .bitDepthMinus8 ≤ 6) (ok-injective e5) (leb→le (b4 % 16) 6 t)
 
 -- the parts of a head that was read: each number, with the offset after it and what is left there
 module _ (P : HeadFields → Type 0) (l : List ℕ) where
@@ -101,6 +115,7 @@ head-facts l h e =
     let b = advanced-then (advanced (v .1) (v .2) s e4) (optional-advanced (s .1) (s .2) x (f .extensionPresent) e5) in
     record {
       end-inside = omega (arith, six-bytes l f e1, advanced-then a b .inside, length-drop 6 l);
+      depth-limit = depth-small l f e1;
       width-limit = limit 6 (drop 6 l) w e2;
       height-limit = limit (w .1) (w .2) v e3;
       data-length-limit = limit (v .1) (v .2) s e4;

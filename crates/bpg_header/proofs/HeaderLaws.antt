@@ -101,7 +101,7 @@ module _ (file : List ℕ) (depth p : ℕ) where
   file-long h = rw (lt-leb (length file) maxFile h)
 
   module _ (short : length file ≤ maxFile) where
-    in-file : headerIn file depth p ≡ readHeader depth p (drop p file)
+    pub in-file : headerIn file depth p ≡ readHeader depth p (drop p file)
     unfolding headerIn
     in-file = rw (le-leb (length file) maxFile short)
 

@@ -1,0 +1,32 @@
+-- The extension block of a file, as a region that ends with it. Assumes nothing.
+use mathlib.Core.Path.{_≡_}
+use mathlib.Core.List.{List}
+use Prim.Native.Nat.{ℕ, _-_, _≤_, _<_}
+use native.Mathlib.Omega.{arith}
+use lib.ListN.{length, take, drop, length-drop}
+use lib.Seq.{length-take-le}
+use borrow.Author.Tests.{le-leb, lt-leb}
+use Rattle.bpg_codec.proofs.Lists.{take-drop}
+use Rattle.bpg_format.specs.Limits.{maxFile}
+use Rattle.bpg_head.specs.Heads.{HeadFields}
+use Rattle.bpg_entries.specs.Blocks.{refusedBlock, blockAnswer, entriesIn}
+use Rattle.bpg_reader.specs.Bodies.{entriesOf, bodyStart}
+
+module _ (file : List ℕ) (short : length file ≤ maxFile) (h : HeadFields) (inside : h .end ≤ length file) where
+  pub block-too-large : length file - h .end < h .extensionLength
+      → refusedBlock 2 (h .extensionLengthAt) ≡ blockAnswer (h .end) (entriesOf h (drop (h .end) file))
+  unfolding entriesOf
+  block-too-large n = rw (lt-leb (h .extensionLength) (length (drop (h .end) file)) (omega (arith, length-drop (h .end) file)))
+
+  pub block-region : h .extensionLength ≤ length file - h .end
+      → blockAnswer (h .end) (entriesIn (take (bodyStart h - 0) file) (h .end)) ≡ blockAnswer (h .end) (entriesOf h (drop (h .end) file))
+  unfolding entriesIn entriesOf
+  block-region n =
+      let whole : bodyStart h - 0 ≡ bodyStart h = omega arith in
+      let ends : length (take (bodyStart h) file) ≡ bodyStart h = length-take-le (bodyStart h) file (omega arith) in
+      rw (
+        whole,
+        le-leb (length (take (bodyStart h) file)) maxFile (omega arith),
+        le-leb (h .extensionLength) (length (drop (h .end) file)) (omega (arith, length-drop (h .end) file)),
+        take-drop (h .extensionLength) (h .end) file,
+      )

@@ -1,0 +1,7 @@
+-- Laws of reading a file.
+pub mod HeadThenBody
+pub mod EntryBlock
+pub mod BodyChain
+pub mod BodyRecord
+pub mod BodyLaws
+pub mod FileLaws

@@ -1,0 +1,13 @@
+-- `body::reaches_end` meets its contract. Assumes nothing.
+use borrow.Author.Tests.{eq-eqb, ne-eqb}
+use Rattle.bpg_reader.proofs.body.reaches_end.Statement.{statement}
+use Rattle.bpg_reader.proofs.body.reaches_end.Tie as tie
+
+returns : tie.Need-returns
+returns c = rw (eq-eqb _ _ (c .if1 .taken))
+
+returns-2 : tie.Need-returns-2
+returns-2 c = rw (ne-eqb _ _ (c .if1 .left))
+
+pub reaches-end-spec : {M : Type 1} → statement M
+reaches-end-spec = tie.close (tie.spec returns returns-2)

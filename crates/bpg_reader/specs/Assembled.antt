@@ -1,0 +1,44 @@
+-- The record of a file, put together from what its parts were read as.
+use mathlib.Core.List.{[], _∷_}
+use Prim.Native.Nat.{ℕ, _-_}
+use Rattle.bpg_numbers.specs.Ue7.{notZero}
+use Rattle.bpg_format.specs.declared.record.Record.{Record}
+use Rattle.bpg_format.specs.declared.answer.Reading.{Reading}
+use Rattle.bpg_format.specs.Zero.{range}
+use Rattle.bpg_format.specs.Records.{codedSize}
+use Rattle.bpg_head.specs.declared.head.Head.{Head}
+use Rattle.bpg_entries.specs.declared.block.Block.{Block}
+use Rattle.bpg_header.specs.declared.headers.HeadersReading.{HeadersReading}
+
+abbrev pub assembledRecord : (len : ℕ) → Head → Block → HeadersReading → Record
+assembledRecord len h b x =
+    record {
+      «pixel_format» = h .«pixel_format»;
+      «alpha1_flag» = h .«alpha1_flag»;
+      «bit_depth_minus_8» = h .«bit_depth_minus_8»;
+      «color_space» = h .«color_space»;
+      «extension_present_flag» = h .«extension_present_flag»;
+      «alpha2_flag» = h .«alpha2_flag»;
+      «limited_range_flag» = h .«limited_range_flag»;
+      «animation_flag» = h .«animation_flag»;
+      «picture_width» = h .«picture_width»;
+      «picture_height» = h .«picture_height»;
+      «explicit_length» = notZero (h .«data_length»);
+      «entry_count» = b .«entry_count»;
+      entries = b .entries;
+      «loop_count» = b .animation .«loop_count»;
+      «frame_period_num» = b .animation .«frame_period_num»;
+      «frame_period_den» = b .animation .«frame_period_den»;
+      headers = x .alpha ∷ x .color ∷ [];
+      «data» = range (x .next) (len - x .next);
+    }
+
+abbrev pub assembledReading : (len : ℕ) → Head → Block → HeadersReading → Reading
+assembledReading len h b x =
+    record {
+      status = 0;
+      offset = 0;
+      «coded_width» = codedSize (x .color) (h .«picture_width»);
+      «coded_height» = codedSize (x .color) (h .«picture_height»);
+      «record» = assembledRecord len h b x;
+    }

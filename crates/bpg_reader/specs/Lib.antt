@@ -1,0 +1,3 @@
+-- What reading the body of a file answers.
+pub mod Bodies
+pub mod Assembled

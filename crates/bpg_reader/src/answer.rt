@@ -1,0 +1,72 @@
+// The record of a file, put together from its parts.
+use bpg_entries::block::Block;
+use bpg_format::Range;
+use bpg_format::Reading;
+use bpg_format::Record;
+use bpg_head::head::Head;
+use bpg_header::headers::HeadersReading;
+ghost use mathlib.Core.Path.{_≡_};
+ghost use Prim.Native.Nat.{_+_, _≤_, _-_, _*_, _/_, _^_};
+ghost use Rattle.bpg_format.specs.Limits.{maxFile};
+ghost use Rattle.bpg_reader.specs.Assembled.{assembledRecord, assembledReading};
+
+// A size rounded up to a multiple of the smallest coding block, whose size is 2^log2_size.
+fn coded_size(size: u32, log2_size: u32) -> u64
+    requires { ⌜ «log2_size» ≤ 6 ⌝ }
+    ensures { λ r. ⌜ r ≡ (size + 2 ^ «log2_size» - 1) / 2 ^ «log2_size» * 2 ^ «log2_size» ⌝ }
+{
+    let unit = 1u64 << log2_size;
+    (size as u64 + unit - 1) / unit * unit
+}
+
+fn record(len: usize, head: Head, block: Block, both: HeadersReading) -> Record
+    requires { ⌜ len ≤ maxFile ⌝ }
+    requires { ⌜ both .next ≤ len ⌝ }
+    ensures { λ r. ⌜ r ≡ assembledRecord len head block both ⌝ }
+{
+    let entries = block.entries;
+    let alpha = both.alpha;
+    let color = both.color;
+    Record {
+        pixel_format: head.pixel_format,
+        alpha1_flag: head.alpha1_flag,
+        bit_depth_minus_8: head.bit_depth_minus_8,
+        color_space: head.color_space,
+        extension_present_flag: head.extension_present_flag,
+        alpha2_flag: head.alpha2_flag,
+        limited_range_flag: head.limited_range_flag,
+        animation_flag: head.animation_flag,
+        picture_width: head.picture_width,
+        picture_height: head.picture_height,
+        explicit_length: head.data_length != 0,
+        entry_count: block.entry_count,
+        entries,
+        loop_count: block.animation.loop_count,
+        frame_period_num: block.animation.frame_period_num,
+        frame_period_den: block.animation.frame_period_den,
+        headers: [alpha, color],
+        data: Range {
+            start: both.next as u32,
+            length: (len - both.next) as u32,
+        },
+    }
+}
+
+// The answer for a file of `len` bytes, all of whose parts were read.
+pub(crate) fn assemble(len: usize, head: Head, block: Block, both: HeadersReading) -> Reading
+    requires { ⌜ len ≤ maxFile ⌝ }
+    requires { ⌜ both .next ≤ len ⌝ }
+    requires { ⌜ both .color .«log2_min_luma_coding_block_size_minus3» ≤ 3 ⌝ }
+    ensures { λ r. ⌜ r ≡ assembledReading len head block both ⌝ }
+{
+    let color = both.color;
+    let log2_size = color.log2_min_luma_coding_block_size_minus3 + 3;
+    let record = record(len, head, block, both);
+    Reading {
+        status: 0,
+        offset: 0,
+        coded_width: coded_size(head.picture_width, log2_size),
+        coded_height: coded_size(head.picture_height, log2_size),
+        record,
+    }
+}

@@ -1,0 +1,87 @@
+// What follows the head of a file: the extension block, the HEVC headers and the data.
+use crate::answer;
+use bpg_entries::block;
+use bpg_entries::block::Block;
+use bpg_format::Reading;
+use bpg_format::reading_refused;
+use bpg_head::head::Head;
+use bpg_header::headers;
+use bpg_numbers::BytePos;
+ghost use mathlib.Core.Path.{_≡_};
+ghost use mathlib.Core.Bool.{not, _||_};
+ghost use Prim.Native.Nat.{_≤_};
+ghost use lib.ListN.{length as count, drop};
+ghost use Rattle.bpg_codec.specs.Outcome.{ok};
+ghost use Rattle.bpg_format.specs.Limits.{maxFile};
+ghost use Rattle.bpg_format.specs.FileCodec.{countsBody};
+ghost use Rattle.bpg_format.specs.Records.{answerOf};
+ghost use Rattle.bpg_head.specs.Heads.{readHead};
+ghost use Rattle.bpg_entries.specs.Blocks.{blockAnswer};
+ghost use Rattle.bpg_reader.specs.Bodies.{headFields, entriesOf, readBody};
+
+// The entries of the extension block. Without the extension flag its length is 0.
+fn entries(file: &[u8], head: Head) -> Block
+    requires { ⌜ count (now file) ≤ maxFile ⌝ }
+    requires { ⌜ head .end ≤ count (now file) ⌝ }
+    ensures { λ r. ⌜ r ≡ blockAnswer (head .end) (entriesOf (headFields head) (drop (head .end) (now (file .entry)))) ⌝ }
+{
+    let length = head.extension_length as usize;
+    if file.len() - head.end < length {
+        return block::refused(2, head.extension_length_at);
+    }
+    block::read(&file[0..head.end + length], BytePos(head.end))
+}
+
+// Refusal 14: with the animation flag, an entry with tag 5 is there.
+fn has_control(animation_flag: bool, animated: bool) -> bool
+    ensures { λ r. ⌜ r ≡ (not «animation_flag» || animated) ⌝ }
+{
+    if animation_flag {
+        return animated;
+    }
+    true
+}
+
+// Refusal 10: a data length that is not 0 counts the headers and the data.
+fn reaches_end(data_length: u32, size: usize) -> bool
+    ensures { λ r. ⌜ r ≡ countsBody «data_length» size ⌝ }
+{
+    if data_length == 0 {
+        return true;
+    }
+    data_length as usize == size
+}
+
+fn has_alpha(alpha1: bool, alpha2: bool) -> bool
+    ensures { λ r. ⌜ r ≡ (alpha1 || alpha2) ⌝ }
+{
+    if alpha1 {
+        return true;
+    }
+    alpha2
+}
+
+// The body of a file whose head this is.
+pub(crate) fn read(file: &[u8], head: Head) -> Reading
+    requires { ⌜ count (now file) ≤ maxFile ⌝ }
+    requires { ⌜ readHead (now file) ≡ ok (headFields head) ⌝ }
+    ensures { λ r. ⌜ r ≡ answerOf (readBody (headFields head) (drop (head .end) (now (file .entry)))) ⌝ }
+{
+    let block = entries(file, head);
+    if block.status != 0 {
+        return reading_refused(block.status, block.offset);
+    }
+    if !has_control(head.animation_flag, block.animated) {
+        return reading_refused(14, 5);
+    }
+    let start = head.end + head.extension_length as usize;
+    if !reaches_end(head.data_length, file.len() - start) {
+        return reading_refused(10, head.data_length_at);
+    }
+    let alpha = has_alpha(head.alpha1_flag, head.alpha2_flag);
+    let both = headers::read(file, BytePos(start), alpha, head.bit_depth_minus_8 + 8);
+    if both.status != 0 {
+        return reading_refused(both.status, both.offset);
+    }
+    answer::assemble(file.len(), head, block, both)
+}
