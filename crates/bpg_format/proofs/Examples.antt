@@ -1,6 +1,6 @@
 -- Each example of the table holds, and so do the answers that `WrongAnswers` needs: all by computation. Assumes nothing.
 use mathlib.Core.Path.{_≡_, refl}
-use lib.ListN.{replicate}
+use lib.ListN.{set, replicate}
 use lib.Count.{leadingZeros}
 use Rattle.bpg_codec.specs.Select.{select}
 use Rattle.bpg_codec.specs.Lawful.{All}
@@ -21,6 +21,7 @@ use Rattle.bpg_format.specs.Examples.{fileA, fileB, fileC, fileD, readin
 
 pub record Answers : Type 0 where
   pub a-reads : readFile fileA ≡ readingA
+  pub a-data-length : readFile (set fileA 9 2) .status ≡ 10
   pub c-status : readFile fileC .status ≡ 0
   pub c-entries : readFile fileC .«record» .«entry_count» ≡ 1
   pub d-entries : readFile fileD .«record» .«entry_count» ≡ 2
@@ -42,6 +43,7 @@ computed = (
   (refl, (refl, (refl, (refl, (refl, (refl, (refl, (refl, (refl, (refl, (refl, (refl, (refl, (refl, (refl, (refl, tt)))))))))))))))),
   record {
     a-reads = refl;
+    a-data-length = refl;
     c-status = refl;
     c-entries = refl;
     d-entries = refl;

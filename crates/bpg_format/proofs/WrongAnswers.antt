@@ -1,10 +1,10 @@
--- The programs that document 01 wants shut out ("The guarantee"): no answers of that kind are the definitions' answers. Assumes nothing.
+-- The programs that document 01 wants shut out ("What each call binds itself to"): no answers of that kind are the definitions' answers. Assumes nothing.
 use mathlib.Core.Path.{_≡_, sym, ap, _∙_}
 use mathlib.Core.Logic.{_≢_}
 use mathlib.Core.List.{List}
 use Prim.Native.Nat.{ℕ, _<_}
 use native.Mathlib.Omega.{arith}
-use lib.ListN.{getD, replicate}
+use lib.ListN.{getD, set, replicate}
 use Rattle.bpg_format.specs.declared.record.Entry.{Entry}
 use Rattle.bpg_format.specs.declared.record.Record.{Record}
 use Rattle.bpg_format.specs.declared.answer.Reading.{Reading}
@@ -32,6 +32,11 @@ one-record r is =
     let a = is fileA (ap (λ (x : Reading). x .status) (answers .a-reads)) in
     let c = is fileC (answers .c-status) in
     absurd (omega (arith, ap (λ (x : Record). x .«entry_count») (sym a ∙ ap (λ (x : Reading). x .«record») (answers .a-reads)), ap (λ (x : Record). x .«entry_count») c, answers .c-entries))
+
+-- a reader that counts the data length from after the headers, and so accepts A with a data length of 2
+counts-data-alone : (reader : List ℕ → Reading) → reader (set fileA 9 2) .status ≡ 0 → ¬ ((f : List ℕ) → reader f ≡ readFile f)
+counts-data-alone reader accepts is =
+    absurd (omega (arith, accepts, ap (λ (r : Reading). r .status) (is (set fileA 9 2)), answers .a-data-length))
 
 -- a cursor that yields entry 0 and then repeats it
 repeats-first : ¬ ((f : List ℕ) (k : ℕ) → k < readFile f .«record» .«entry_count» → entryOf f k ≡ entryOf f 0)

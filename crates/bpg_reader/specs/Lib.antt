@@ -1,3 +1,4 @@
 -- What reading the body of a file answers.
 pub mod Bodies
 pub mod Assembled
+pub mod Entries

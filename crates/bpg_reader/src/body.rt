@@ -29,7 +29,8 @@ fn entries(file: &[u8], head: Head) -> Block
     if file.len() - head.end < length {
         return block::refused(2, head.extension_length_at);
     }
-    block::read(&file[0..head.end + length], BytePos(head.end))
+    let end = head.end + length;
+    block::read(&file[0..end], BytePos(head.end))
 }
 
 // Refusal 14: with the animation flag, an entry with tag 5 is there.

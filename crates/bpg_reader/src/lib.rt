@@ -1,6 +1,11 @@
-// Reading a BPG file: the record that the syntax gives, or a refusal.
+// Reading a BPG file: the record that the syntax gives, or a refusal; and the parts of the file that the record names.
 mod answer;
 mod body;
 mod file;
+mod parts;
 
 pub use file::read;
+pub use parts::EntryAt;
+pub use parts::data;
+pub use parts::entry_at;
+pub use parts::payload;

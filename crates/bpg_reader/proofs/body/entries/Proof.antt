@@ -20,8 +20,8 @@ returns c =
     let s = c .before .before .before .before .before in
     c .refused .ensures ∙ block-too-large _ (s .pre .0) (headFields (s .args .head)) (s .pre .1) (c .before .if1 .taken)
 
-add-read : tie.Need-add-read
-add-read c = search needs
+add-end : tie.Need-add-end
+add-end c = search needs
 
 sub-read : tie.Need-sub-read
 sub-read c = search needs
@@ -49,7 +49,7 @@ entries-spec =
     sub-if1
     refused-requires
     returns
-    add-read
+    add-end
     sub-read
     part-read-start
     part-read-end

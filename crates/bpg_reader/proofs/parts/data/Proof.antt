@@ -1,0 +1,56 @@
+-- `parts::data` meets its contract. Assumes nothing.
+use mathlib.Core.Path.{_≡_, refl, ap}
+use Prim.Native.Nat.{_+_, _-_}
+use native.Mathlib.Omega.{arith}
+use Rattle.bpg_codec.proofs.Tokens.{all-bytes}
+use Rattle.bpg_format.specs.declared.answer.Reading.{Reading}
+use Rattle.bpg_format.specs.Parts.{rangeEnd}
+use Rattle.bpg_reader.proofs.PartLaws.{data-inside, data-bytes}
+use borrow.Author.Needs.{needs}
+use Rattle.bpg_reader.proofs.parts.data.Statement.{statement}
+use Rattle.bpg_reader.proofs.parts.data.Tie as tie
+
+read-requires : tie.Need-read-requires
+read-requires c κs = search needs
+
+cast-start : tie.Need-cast-start
+cast-start c = search needs
+
+cast-result : tie.Need-cast-result
+cast-result c = search needs
+
+add-result : tie.Need-add-result
+add-result c = search needs
+
+sub-result : tie.Need-sub-result
+sub-result c = search needs
+
+part-result-start : tie.Need-part-result-start
+part-result-start c = search needs
+
+part-result-end : tie.Need-part-result-end
+part-result-end c =
+    let r = c .before .before .before in
+    let file = r .before .before .args .file .now in
+    let inside = data-inside file (all-bytes file (λ i. omega (arith, r .before .shared-slice-known .given i))) in
+    omega (arith, inside, ap (λ (x : Reading). rangeEnd (x .«record» .«data»)) (r .read .ensures))
+
+returns : tie.Need-returns
+returns c =
+    let r = c .before .before .before .before in
+    let p = r .read .result .«record» .«data» in
+    let n : p .start + p .length - p .start ≡ p .length = omega arith in
+    (data-bytes _ (r .read .result) (r .read .ensures) n, (refl, omega (arith, ap (λ (x : Reading). x .«record» .«data» .start) (r .read .ensures))))
+
+pub data-spec : {M : Type 1} → statement M
+data-spec =
+    tie.close
+    (tie.spec
+    read-requires
+    cast-start
+    cast-result
+    add-result
+    sub-result
+    part-result-start
+    part-result-end
+    returns)
