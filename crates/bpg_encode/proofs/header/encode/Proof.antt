@@ -1,0 +1,68 @@
+-- `header::encode` meets its contract: the groups of fields are added to an empty buffer, one after another. Assumes nothing.
+use mathlib.Core.Path.{_≡_, sym, _∙_}
+use lib.ListN.{length, length-map}
+use borrow.Author.Needs.{needs}
+use Rattle.bpg_encode.proofs.AddingLaws.{added-then}
+use Rattle.bpg_encode.proofs.HeaderLaws.{header-held}
+use Rattle.bpg_encode.proofs.header.encode.Statement.{statement}
+use Rattle.bpg_encode.proofs.header.encode.Tie as tie
+
+-- the array has nine flags
+nine : (c : tie.Start) → length (c .args .header .«range_flags») ≡ 9
+nine c = sym (length-map (c .args .header .«range_flags») (λ v. v)) ∙ c .good .0 .1 .1 .1 .1 .1 .1 .1 .1 .1 .1 .1 .1 .1 .1 .1 .1 .1 .1 .0 .1 .0 .1
+
+none-requires : tie.Need-none-requires
+none-requires c κs = search needs
+
+add-sizes-requires : tie.Need-add-sizes-requires
+add-sizes-requires c κs = search needs
+
+add-flag-requires : tie.Need-add-flag-requires
+add-flag-requires c κs = search needs
+
+add-flag-requires-2 : tie.Need-add-flag-requires-2
+add-flag-requires-2 c κs = search needs
+
+add-pcm-requires : tie.Need-add-pcm-requires
+add-pcm-requires c κs = search needs
+
+add-flag-requires-3 : tie.Need-add-flag-requires-3
+add-flag-requires-3 c κs = search needs
+
+add-flag-requires-4 : tie.Need-add-flag-requires-4
+add-flag-requires-4 c κs = search needs
+
+add-sps-requires : tie.Need-add-sps-requires
+add-sps-requires c κs = search needs
+
+add-requires : tie.Need-add-requires
+add-requires c κs = search needs
+
+returns : tie.Need-returns
+returns c =
+    let pcm = c .before .before .before .before in
+    let sizes = pcm .before .before .before in
+    let start = sizes .before .before in
+    header-held (start .args .header) (nine start) (sizes .before .none .ensures)
+    (added-then (sizes .add-sizes .ensures)
+    (added-then (pcm .before .before .add-flag .ensures)
+    (added-then (pcm .before .add-flag2 .ensures)
+    (added-then (pcm .add-pcm .ensures)
+    (added-then (c .before .before .before .add-flag3 .ensures)
+    (added-then (c .before .before .add-flag4 .ensures)
+    (added-then (c .before .add-sps .ensures) (c .add .ensures))))))))
+
+pub encode-spec : {M : Type 1} → statement M
+encode-spec =
+    tie.close
+    (tie.spec
+    none-requires
+    add-sizes-requires
+    add-flag-requires
+    add-flag-requires-2
+    add-pcm-requires
+    add-flag-requires-3
+    add-flag-requires-4
+    add-sps-requires
+    add-requires
+    returns)

@@ -1,0 +1,23 @@
+-- Adding bits to a buffer, where they fit.
+use mathlib.Core.Path.{_≡_}
+use mathlib.Core.Bool.{Bool}
+use mathlib.Core.List.{List, _++_}
+use Prim.Native.Nat.{_+_, _≤_}
+use lib.ListN.{length}
+use Rattle.bpg_numbers.specs.BitNumbers.{expGolombBits}
+use Rattle.bpg_numbers.specs.BitBuffer.{appended}
+use Rattle.bpg_numbers.specs.declared.bit_buffer.BitBuffer.{BitBuffer}
+use Rattle.bpg_format.specs.declared.record.Header.{Header}
+
+-- r is b with these bits after its own, where there is room for them
+pub record Added (b : BitBuffer) (l : List Bool) (r : BitBuffer) : Type 0 where
+  pub fits : b .len .0 + length l ≤ 512 → r ≡ appended b l
+
+-- the first five fields of a header
+abbrev pub sizeBits : Header → List Bool
+sizeBits h =
+    expGolombBits (h .«log2_min_luma_coding_block_size_minus3»)
+    ++ (expGolombBits (h .«log2_diff_max_min_luma_coding_block_size»)
+    ++ (expGolombBits (h .«log2_min_transform_block_size_minus2»)
+    ++ (expGolombBits (h .«log2_diff_max_min_transform_block_size»)
+    ++ expGolombBits (h .«max_transform_hierarchy_depth_intra»))))

@@ -1,0 +1,2 @@
+-- What the functions that gather a header's bits add to a buffer.
+pub mod Adding

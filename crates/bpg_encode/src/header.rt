@@ -1,0 +1,27 @@
+// All fields of a HEVC header, in the specification's order.
+use crate::fields;
+use crate::range_flags;
+use bpg_format::Header;
+use bpg_numbers::bit_buffer;
+use bpg_numbers::bit_buffer::BitBuffer;
+ghost use mathlib.Core.Path.{_≡_};
+ghost use Prim.Native.Nat.{_≤_};
+ghost use lib.ListN.{length, take};
+ghost use Rattle.bpg_codec.specs.Bits.{bytesFor, padded};
+ghost use Rattle.bpg_format.specs.Syntax.{headerBits};
+
+// The header's bits. A number that does not fit its field gives its low bits, and 2^32 - 1, which has no ue(v) code, none.
+pub fn encode(header: Header) -> BitBuffer
+    ensures { λ r. ⌜ r .len .0 ≡ length (headerBits header) ⌝ }
+    ensures { λ r. ⌜ r .len .0 ≤ 471 ⌝ }
+    ensures { λ r. ⌜ take (bytesFor (r .len .0)) (r .bytes) ≡ padded (headerBits header) ⌝ }
+{
+    let sizes = fields::add_sizes(bit_buffer::none(), header);
+    let offset = fields::add_flag(sizes, header.sample_adaptive_offset_enabled_flag);
+    let pcm_flag = fields::add_flag(offset, header.pcm_enabled_flag);
+    let pcm = fields::add_pcm(pcm_flag, header);
+    let smoothing = fields::add_flag(pcm, header.strong_intra_smoothing_enabled_flag);
+    let sps_flag = fields::add_flag(smoothing, header.sps_extension_present_flag);
+    let sps = fields::add_sps(sps_flag, header);
+    range_flags::add(sps, header)
+}
