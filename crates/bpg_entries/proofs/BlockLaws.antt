@@ -8,11 +8,10 @@ use native.Mathlib.Omega.{arith}
 use lib.Dec.{leb, eqb, T}
 use lib.ListN.{length, take, drop, set, length-append, length-drop, drop-of-length-le}
 use lib.Seq.{drop-drop, drop-at}
-use borrow.Author.Tests.{le-leb, lt-leb, eq-eqb, ne-eqb}
+use borrow.Author.Tests.{le-leb, lt-leb}
 use Rattle.bpg_codec.specs.Select.{select}
 use Rattle.bpg_codec.specs.Outcome.{Outcome, ok, error, _>>=_}
 use Rattle.bpg_codec.specs.Lawful.{All, Byte}
-use Rattle.bpg_codec.proofs.Select.{select-true, select-false}
 use Rattle.bpg_codec.proofs.Outcome.{ok-injective, unbind, unguard, bind-assoc}
 use Rattle.bpg_codec.proofs.Tokens.{all-drop}
 use Rattle.bpg_numbers.specs.Ue7.{ue7, ue7Bytes}
@@ -35,7 +34,7 @@ use Rattle.bpg_entries.specs.declared.entry.Step.{Step}
 use Rattle.bpg_entries.specs.declared.block.Block.{Block}
 use Rattle.bpg_entries.specs.Animations.{loopAnswer}
 use Rattle.bpg_entries.specs.Entries.{stepAnswer}
-use Rattle.bpg_entries.specs.Blocks.{refusedBlock, addedBlock, blockAnswer, entriesIn}
+use Rattle.bpg_entries.specs.Blocks.{refusedBlock, blockAnswer, entriesIn}
 use Rattle.bpg_entries.proofs.LastEntry.{or-select, answer-select, entries-snoc, bytes-snoc, has-snoc, loop-snoc, pad-snoc}
 
 -- ---- the reading, one entry at a time
@@ -86,6 +85,18 @@ module _ (region : List ℕ) (bytes : All Byte region) (seen : Bool) (p : ℕ) (
 
 -- ---- the loop
 
+-- the block with a step's entry, and with its animation where that has tag 5
+abbrev pub addedBlock : Block → Step → Block
+addedBlock b t =
+    record {
+      status = b .status;
+      offset = b .offset;
+      «entry_count» = b .«entry_count» + 1;
+      entries = set (b .entries) (b .«entry_count») (t .entry);
+      animated = select (eqb (t .entry .tag) 5) true (b .animated);
+      animation = select (eqb (t .entry .tag) 5) (t .animation) (b .animation);
+    }
+
 -- `done` was read from p on, and stands in the block; from `next` on the rest is read
 pub record Reading (region : List ℕ) (p : ℕ) (block : Block) (next : ℕ) : Type 0 where
   pub done : List Extension
@@ -109,6 +120,9 @@ module _ (region : List ℕ) (p : ℕ) (block : Block) (next : ℕ) (inv : Readi
 
   count : block .«entry_count» ≡ length (inv .done)
   count = ap (λ (b : Block). b .«entry_count») (inv .is)
+
+  pub count-most : block .«entry_count» ≤ maxEntries
+  count-most = omega (arith, count, inv .few)
 
   seen : block .animated ≡ hasLoop (inv .done)
   seen = ap (λ (b : Block). b .animated) (inv .is)
@@ -228,7 +242,6 @@ module _ (region : List ℕ) (p : ℕ) (block : Block) (next : ℕ) (inv : Readi
             count-new = omega (arith, count, length-append (inv .done) (new ∷ []))
 
             added-new : addedBlock block t ≡ blockAnswer p (ok (inv .done ++ (new ∷ [])))
-            unfolding addedBlock
             added-new =
                 λ z.
                 record {
@@ -257,36 +270,3 @@ module _ (region : List ℕ) (p : ℕ) where
   pub in-region : length region ≤ maxFile → readEntries maxEntries false p (drop p region) ≡ entriesIn region p
   unfolding entriesIn
   in-region h = rw (le-leb _ _ h)
-
--- ---- one entry more in the block
-
-module _ (b : Block) (t : Step) where
-  pub added-count : addedBlock b t .«entry_count» ≡ b .«entry_count» + 1
-  unfolding addedBlock
-  added-count = refl
-
-  pub added-plain : t .entry .tag ≢ 5
-      → record {
-        status = b .status;
-        offset = b .offset;
-        «entry_count» = b .«entry_count» + 1;
-        entries = set (b .entries) (b .«entry_count») (t .entry);
-        animated = b .animated;
-        animation = b .animation;
-      }
-      ≡ addedBlock b t
-  unfolding addedBlock
-  added-plain n = rw (ne-eqb _ _ n, select-false, select-false)
-
-  pub added-animation : t .entry .tag ≡ 5
-      → record {
-        status = b .status;
-        offset = b .offset;
-        «entry_count» = b .«entry_count» + 1;
-        entries = set (b .entries) (b .«entry_count») (t .entry);
-        animated = true;
-        animation = t .animation;
-      }
-      ≡ addedBlock b t
-  unfolding addedBlock
-  added-animation e = rw (eq-eqb _ _ e, select-true, select-true)

@@ -1,10 +1,9 @@
 -- What reading the entries of a block answers (document 01, "Order of the file", item 4).
-use mathlib.Core.Bool.{true, false}
+use mathlib.Core.Bool.{false}
 use mathlib.Core.List.{List}
-use Prim.Native.Nat.{ℕ, _+_}
-use lib.Dec.{leb, eqb}
-use lib.ListN.{length, drop, set, replicate}
-use Rattle.bpg_codec.specs.Select.{select}
+use Prim.Native.Nat.{ℕ}
+use lib.Dec.{leb}
+use lib.ListN.{length, drop, replicate}
 use Rattle.bpg_codec.specs.Outcome.{Outcome, ok, error, _>>=_, guard}
 use Rattle.bpg_format.specs.Limits.{maxEntries, maxFile}
 use Rattle.bpg_format.specs.Zero.{zeroEntry}
@@ -14,7 +13,6 @@ use Rattle.bpg_format.specs.FileCodec.{loopOf}
 use Rattle.bpg_format.specs.Read.{readEntries}
 use Rattle.bpg_format.specs.Records.{entriesAt, padEntries}
 use Rattle.bpg_entries.specs.declared.block.Block.{Block}
-use Rattle.bpg_entries.specs.declared.entry.Step.{Step}
 use Rattle.bpg_entries.specs.Animations.{refusedAnimation, loopAnswer}
 
 abbrev pub refusedBlock : (status offset : ℕ) → Block
@@ -26,18 +24,6 @@ refusedBlock s o =
       entries = replicate maxEntries zeroEntry;
       animated = false;
       animation = refusedAnimation 0 0;
-    }
-
--- the block with a step's entry, and with its animation where that has tag 5
-unfoldable pub addedBlock : Block → Step → Block
-addedBlock b t =
-    record {
-      status = b .status;
-      offset = b .offset;
-      «entry_count» = b .«entry_count» + 1;
-      entries = set (b .entries) (b .«entry_count») (t .entry);
-      animated = select (eqb (t .entry .tag) 5) true (b .animated);
-      animation = select (eqb (t .entry .tag) 5) (t .animation) (b .animation);
     }
 
 -- entries of a block whose first stands at p

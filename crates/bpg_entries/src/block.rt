@@ -2,16 +2,16 @@
 use crate::animation;
 use crate::animation::Animation;
 use crate::entry;
-use crate::entry::Step;
 use bpg_format::Entry;
 use bpg_format::MAX_ENTRIES;
 use bpg_format::MAX_FILE;
 use bpg_format::zero_entry;
 use bpg_numbers::BytePos;
 ghost use mathlib.Core.Path.{_≡_};
-ghost use Prim.Native.Nat.{_<_};
-ghost use Rattle.bpg_format.specs.Limits.{maxEntries};
-ghost use Rattle.bpg_entries.specs.Blocks.{refusedBlock, addedBlock, blockAnswer, entriesIn};
+ghost use mathlib.Core.Bool.{true};
+ghost use lib.Dec.{eqb};
+ghost use Rattle.bpg_codec.specs.Select.{select};
+ghost use Rattle.bpg_entries.specs.Blocks.{refusedBlock, blockAnswer, entriesIn};
 
 // Status 0, the entries, whether one has tag 5, and what it says; or a refusal and zeros.
 pub struct Block {
@@ -38,44 +38,62 @@ pub fn refused(status: u8, offset: usize) -> Block
     }
 }
 
-// The block with one more entry.
-fn added(block: Block, step: Step) -> Block
-    requires { ⌜ block .«entry_count» < maxEntries ⌝ }
-    ensures { λ r. ⌜ r ≡ addedBlock block step ⌝ }
+// Whether an entry with tag 5 has been read, after one with this tag.
+fn animated_after(tag: u32, animated: bool) -> bool
+    ensures { λ r. ⌜ r ≡ select (eqb tag 5) true animated ⌝ }
 {
-    let mut more = block;
-    let entry = step.entry;
-    let k = more.entry_count as usize;
-    more.entries[k] = entry;
-    more.entry_count += 1;
-    if entry.tag != 5 {
-        return more;
+    if tag == 5 {
+        return true;
     }
-    let animation = step.animation;
-    more.animated = true;
-    more.animation = animation;
-    more
+    animated
+}
+
+// What is said of the animation, after an entry with this tag.
+fn animation_after(tag: u32, found: Animation, before: Animation) -> Animation
+    ensures { λ r. ⌜ r ≡ select (eqb tag 5) found before ⌝ }
+{
+    if tag == 5 {
+        return found;
+    }
+    before
 }
 
 // The entries from `at` to the end of the region. A region longer than a file is refused.
+// The block is made at the end: passed from turn to turn, it would be copied for each entry.
 pub fn read(region: &[u8], at: BytePos) -> Block
     ensures { λ r. ⌜ r ≡ blockAnswer (at .0) (entriesIn (now (region .entry)) (at .0)) ⌝ }
 {
     if MAX_FILE < region.len() {
         return refused(1, 0);
     }
-    let mut block = refused(0, 0);
+    let none = zero_entry();
+    let mut entries = [none; MAX_ENTRIES];
+    let mut entry_count: u32 = 0;
+    let mut animated = false;
+    let mut animation = animation::refused(0, 0);
     let mut next = at.0;
     while next < region.len() {
-        if MAX_ENTRIES <= block.entry_count as usize {
+        if MAX_ENTRIES <= entry_count as usize {
             return refused(11, next);
         }
-        let step = entry::read(region, BytePos(next), block.animated);
+        let step = entry::read(region, BytePos(next), animated);
         if step.status != 0 {
             return refused(step.status, step.offset);
         }
+        let entry = step.entry;
+        let found = step.animation;
+        entries[entry_count as usize] = entry;
+        entry_count += 1;
+        animated = animated_after(entry.tag, animated);
+        animation = animation_after(entry.tag, found, animation);
         next = step.next;
-        block = added(block, step);
     }
-    block
+    Block {
+        status: 0,
+        offset: 0,
+        entry_count,
+        entries,
+        animated,
+        animation,
+    }
 }

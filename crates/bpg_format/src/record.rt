@@ -1,5 +1,6 @@
 // The record: every field of a file as it is coded, under the names of the BPG specification, with ranges in place of bytes.
 ghost use mathlib.Core.Path.{_≡_};
+ghost use mathlib.Core.Bool.{_||_};
 ghost use Rattle.bpg_format.specs.Zero.{zeroHeader, zeroEntry, zeroRecord};
 
 // House rules of document 01.
@@ -63,6 +64,16 @@ pub struct Record {
     // the alpha (or W) plane's, zero where there is none, and the colour's
     pub headers: [Header; 2],
     pub data: Range,
+}
+
+// An alpha (or W) plane is there: alpha2 alone is the W plane.
+pub fn has_alpha(alpha1: bool, alpha2: bool) -> bool
+    ensures { λ r. ⌜ r ≡ (alpha1 || alpha2) ⌝ }
+{
+    if alpha1 {
+        return true;
+    }
+    alpha2
 }
 
 pub fn zero_entry() -> Entry

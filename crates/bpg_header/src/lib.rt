@@ -4,5 +4,5 @@ pub mod fields;
 pub mod header;
 pub mod headers;
 pub mod range_flags;
-mod rules;
+pub mod rules;
 mod trailing;

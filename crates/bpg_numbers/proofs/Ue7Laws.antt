@@ -127,10 +127,10 @@ size-grows v w h = omega (arith, size-bytes v, size-bytes w, high-grows (w / 128
 pub size-positive : (v : ℕ) → 0 < length (ue7Bytes v)
 size-positive v = omega (arith, size-bytes v)
 
--- a number of 32 bits has at most five bytes
-pub size-most : (v : ℕ) → v < 2 ^ 32 → length (ue7Bytes v) ≤ 5
+-- a number of 64 bits has at most ten bytes
+pub size-most : (v : ℕ) → v < 2 ^ 64 → length (ue7Bytes v) ≤ 10
 unfolding ue7Bytes groups
-size-most v h = size-grows v (2 ^ 32 - 1) (omega arith)
+size-most v h = size-grows v (2 ^ 64 - 1) (omega arith)
 
 -- ---- the bytes of a number are bytes
 

@@ -5,7 +5,7 @@ use crate::arithmetic::wide;
 use crate::position::BitPos;
 ghost use mathlib.Core.Path.{_≡_};
 ghost use mathlib.Core.Bool.{false};
-ghost use Prim.Native.Nat.{ℕ, min};
+ghost use Prim.Native.Nat.{ℕ, min, _*_, _<_};
 ghost use lib.ListN.{length, drop, getD};
 ghost use Rattle.bpg_codec.specs.Outcome.{located};
 ghost use Rattle.bpg_codec.specs.Bits.{bit as bitOf, unpack};
@@ -25,15 +25,22 @@ pub fn count(region: &[u8]) -> usize
     8 * least(region.len(), 0x1000_0000_0000_0000)
 }
 
+// Bit k of the bytes as a number.
+pub(crate) fn bit_inside(region: &[u8], k: usize) -> u64
+    requires { ⌜ k < 8 * length (now region) ⌝ }
+    ensures { λ r. ⌜ r ≡ bitOf (getD (unpack (now (region .entry))) k false) ⌝ }
+{
+    (wide(region[k / 8]) >> (7 - k % 8)) % 2
+}
+
 // Bit k of the bytes as a number: 0 past them.
 pub fn bit(region: &[u8], k: usize) -> u64
     ensures { λ r. ⌜ r ≡ bitOf (getD (unpack (now (region .entry))) k false) ⌝ }
 {
-    let place = k / 8;
-    if region.len() <= place {
+    if region.len() <= k / 8 {
         return 0;
     }
-    (wide(region[place]) >> (7 - k % 8)) % 2
+    bit_inside(region, k)
 }
 
 // The next n bits as a number; n above 32 counts as 32.
@@ -49,7 +56,7 @@ pub fn read(region: &[u8], at: BitPos, n: u32) -> BitNumber
     let mut value: u64 = 0;
     let mut next = start;
     while next < past {
-        value = value * 2 + bit(region, next);
+        value = value * 2 + bit_inside(region, next);
         next += 1;
     }
     BitNumber::Value(value as u32, BitPos(past))

@@ -29,7 +29,7 @@ pub fn read(region: &[u8], at: BitPos) -> BitNumber
     let mut z: u32 = 0;
     let mut next = at.0;
     while next < end {
-        if bits::bit(region, next) == 1 {
+        if bits::bit_inside(region, next) == 1 {
             return suffix(region, BitPos(next + 1), z);
         }
         if z == 31 {

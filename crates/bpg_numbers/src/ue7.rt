@@ -9,7 +9,7 @@ ghost use Rattle.bpg_codec.specs.Outcome.{located};
 ghost use Rattle.bpg_codec.specs.Codec.{atOwn};
 ghost use Rattle.bpg_codec.specs.Parts.{guarded};
 ghost use Rattle.bpg_codec.specs.Buffer.{written, writtenEnd};
-ghost use Rattle.bpg_numbers.specs.Ue7.{ue7, notZero};
+ghost use Rattle.bpg_numbers.specs.Ue7.{ue7, ue7Bytes, notZero};
 ghost use Rattle.bpg_numbers.specs.Answers.{numberOutcome};
 
 // A number and the position after it, or the status of a refusal and the position that it is reported at.
@@ -72,9 +72,9 @@ pub fn read_nonzero(region: &[u8], at: BytePos, n: u32, status: u8) -> Number
     }
 }
 
-// How many bytes v takes.
-pub fn size(v: u32) -> usize
-    ensures { λ r. ⌜ r ≡ length (ue7 32 .encode v) ⌝ }
+// How many bytes v takes, whatever its number of bits.
+pub fn size(v: u64) -> usize
+    ensures { λ r. ⌜ r ≡ length (ue7Bytes v) ⌝ }
 {
     let mut left = v / 128;
     let mut count: usize = 1;
@@ -91,7 +91,7 @@ pub fn write(out: &mut [u8], at: BytePos, v: u32) -> BytePos
     ensures { λ r. ⌜ r .0 ≡ writtenEnd (now (out .entry)) (at .0) (ue7 32 .encode v) ⌝ }
 {
     let start = at.0;
-    let count = size(v);
+    let count = size(v as u64);
     if remaining(out.len(), start) < count {
         return at;
     }

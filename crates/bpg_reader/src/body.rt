@@ -3,6 +3,7 @@ use crate::answer;
 use bpg_entries::block;
 use bpg_entries::block::Block;
 use bpg_format::Reading;
+use bpg_format::has_alpha;
 use bpg_format::reading_refused;
 use bpg_head::head::Head;
 use bpg_header::headers;
@@ -51,15 +52,6 @@ fn reaches_end(data_length: u32, size: usize) -> bool
         return true;
     }
     data_length as usize == size
-}
-
-fn has_alpha(alpha1: bool, alpha2: bool) -> bool
-    ensures { λ r. ⌜ r ≡ (alpha1 || alpha2) ⌝ }
-{
-    if alpha1 {
-        return true;
-    }
-    alpha2
 }
 
 // The body of a file whose head this is.

@@ -1,26 +1,36 @@
 -- `block::read` meets its contract. The invariant is `Reading`: the entries so far stand in the block. Assumes nothing.
 use mathlib.Core.Path.{_≡_, sym, ap, _∙_, subst}
-use mathlib.Core.Bool.{false}
+use mathlib.Core.Bool.{Bool, true, false}
 use mathlib.Core.List.{List}
-use Prim.Native.Nat.{ℕ, _-_}
+use Prim.Native.Nat.{ℕ, _+_, _-_}
 use native.Mathlib.Omega.{arith}
-use lib.ListN.{drop}
+use lib.Dec.{eqb}
+use lib.ListN.{drop, set, replicate}
 use borrow.Author.Needs.{needs}
+use Rattle.bpg_codec.specs.Select.{select}
 use Rattle.bpg_codec.specs.Lawful.{All, Byte}
 use Rattle.bpg_codec.proofs.Tokens.{all-bytes}
 use Rattle.bpg_format.specs.Limits.{maxEntries}
+use Rattle.bpg_format.specs.declared.record.Entry.{Entry}
 use Rattle.bpg_format.specs.Read.{readEntries}
+use Rattle.bpg_entries.specs.declared.animation.Animation.{Animation}
 use Rattle.bpg_entries.specs.declared.block.Block.{Block}
+use Rattle.bpg_entries.specs.Animations.{refusedAnimation}
 use Rattle.bpg_entries.specs.Blocks.{blockAnswer, entriesIn}
-use Rattle.bpg_entries.proofs.BlockLaws.{Reading, begins, ends, full, stops, goes-on, added-count, too-long, in-region}
+use Rattle.bpg_entries.proofs.BlockLaws.{Reading, begins, ends, full, stops, goes-on, count-most, too-long, in-region}
 use Rattle.bpg_entries.proofs.block.read.Statement.{statement}
 use Rattle.bpg_entries.proofs.block.read.Tie as tie
 
+-- the block that the parts make
+abbrev made : List Entry → ℕ → Bool → Animation → Block
+made es n animated animation = record { status = 0; offset = 0; «entry_count» = n; entries = es; animated = animated; animation = animation }
+
 abbrev Inv-loop : tie.InvT-loop
-Inv-loop region block₀ next₀ block next = Reading region next₀ block next
+Inv-loop region entries₀ entry-count₀ animated₀ animation₀ next₀ entries entry-count animated animation next =
+    Reading region next₀ (made entries entry-count animated animation) next
 
 abbrev μ-loop : tie.MeasureT-loop
-μ-loop region block₀ next₀ block next = maxEntries - block .«entry_count»
+μ-loop region entries₀ entry-count₀ animated₀ animation₀ next₀ entries entry-count animated animation next = maxEntries - entry-count
 
 refused-requires : tie.Need-refused-requires Inv-loop μ-loop
 refused-requires c κs = search needs
@@ -28,18 +38,23 @@ refused-requires c κs = search needs
 returns : tie.Need-returns Inv-loop μ-loop
 returns c = c .refused .ensures ∙ too-long _ _ (c .before .if1 .taken)
 
+zero-entry-requires : tie.Need-zero-entry-requires Inv-loop μ-loop
+zero-entry-requires c κs = search needs
+
 refused-requires-2 : tie.Need-refused-requires-2 Inv-loop μ-loop
 refused-requires-2 c κs = search needs
 
 loop-holds : tie.Need-loop-holds Inv-loop μ-loop
 loop-holds c =
-    let a = c .before .before .before .args in
-    subst (λ (b : Block). Reading (a .region .now) (a .at .0) b (a .at .0)) (sym (c .refused2 .ensures)) (begins (a .region .now) (a .at .0))
+    let a = c .before .before .before .before .args in
+    subst (λ (y : Animation). Reading (a .region .now) (a .at .0) (made (replicate maxEntries (c .before .zero-entry .result)) 0 false y) (a .at .0)) (sym (c .refused2 .ensures))
+    (subst (λ (e : Entry). Reading (a .region .now) (a .at .0) (made (replicate maxEntries e) 0 false (refusedAnimation 0 0)) (a .at .0)) (sym (c .before .zero-entry .ensures))
+    (begins (a .region .now) (a .at .0)))
 
 -- a turn of the loop
 module _ (c : tie.At-loop Inv-loop μ-loop) where
   abbrev start : tie.Start Inv-loop μ-loop
-  start = c .before .before .before .before
+  start = c .before .before .before .before .before
 
   abbrev region : List ℕ
   region = start .args .region .now
@@ -47,22 +62,25 @@ module _ (c : tie.At-loop Inv-loop μ-loop) where
   abbrev at : ℕ
   at = start .args .at .0
 
+  abbrev block : Block
+  block = made (c .loop .entries) (c .loop .entry-count) (c .loop .animated) (c .loop .animation)
+
   short : readEntries maxEntries false at (drop at region) ≡ entriesIn region at
-  short = in-region region at (c .before .before .if1 .left)
+  short = in-region region at (c .before .before .before .if1 .left)
 
   bytes : All Byte region
-  bytes = all-bytes region (λ i. omega (arith, c .before .before .before .shared-slice-known .given i))
+  bytes = all-bytes region (λ i. omega (arith, c .before .before .before .before .shared-slice-known .given i))
 
 cast-if2 : tie.Need-cast-if2 Inv-loop μ-loop
-cast-if2 c = search needs
+cast-if2 c = let l = c .before in omega (arith, count-most _ _ (block l) _ (l .loop .inv))
 
 refused-requires-3 : tie.Need-refused-requires-3 Inv-loop μ-loop
 refused-requires-3 c κs = search needs
 
 returns-2 : tie.Need-returns-2 Inv-loop μ-loop
 returns-2 c =
-    let l = c .before .before .before .before in
-    c .refused3 .ensures ∙ full _ _ _ _ (l .loop .inv) (c .before .before .before .loop-test .taken) (c .before .if2 .taken) ∙ ap (blockAnswer (at l)) (short l)
+    let l = c .before .before .before in
+    c .refused3 .ensures ∙ full _ _ (block l) _ (l .loop .inv) (c .before .before .loop-test .taken) (c .before .if2 .taken) ∙ ap (blockAnswer (at l)) (short l)
 
 read-requires : tie.Need-read-requires Inv-loop μ-loop
 read-requires c κs = search needs
@@ -73,26 +91,45 @@ refused-requires-4 c κs = search needs
 returns-3 : tie.Need-returns-3 Inv-loop μ-loop
 returns-3 c =
     let r = c .before .before .before in
-    let l = r .before .before .before .before in
+    let l = r .before .before .before in
     c .refused4 .ensures
-    ∙ stops _ _ _ _ (l .loop .inv) (r .before .before .before .loop-test .taken) (r .before .if2 .left) (r .read .result) (r .read .ensures) (c .before .if3 .taken)
+    ∙ stops _ _ (block l) _ (l .loop .inv) (r .before .before .loop-test .taken) (r .before .if2 .left) (r .read .result) (r .read .ensures) (c .before .if3 .taken)
     ∙ ap (blockAnswer (at l)) (short l)
 
-added-requires : tie.Need-added-requires Inv-loop μ-loop
-added-requires c κs = search needs
+cast-entries : tie.Need-cast-entries Inv-loop μ-loop
+cast-entries c = search needs
+
+mul-entries : tie.Need-mul-entries Inv-loop μ-loop
+mul-entries c = search needs
+
+array-set-from-entries : tie.Need-array-set-from-entries Inv-loop μ-loop
+array-set-from-entries c = search needs
+
+add-entry-count : tie.Need-add-entry-count Inv-loop μ-loop
+add-entry-count c = search needs
+
+animated-after-requires : tie.Need-animated-after-requires Inv-loop μ-loop
+animated-after-requires c κs = search needs
+
+animation-after-requires : tie.Need-animation-after-requires Inv-loop μ-loop
+animation-after-requires c κs = search needs
 
 loop-less : tie.Need-loop-less Inv-loop μ-loop
-loop-less c = omega (arith, ap (λ (b : Block). b .«entry_count») (c .added .ensures) ∙ added-count _ _, c .before .before .before .before .if2 .left)
+loop-less c = omega (arith, c .before .before .before .before .before .before .before .if2 .left)
 
 loop-again : tie.Need-loop-again Inv-loop μ-loop
 loop-again c =
-    let r = c .before .before .before in
-    let l = r .before .before .before .before in
-    subst (λ (b : Block). Reading (region l) (at l) b (r .read .result .next)) (sym (c .added .ensures))
-    (goes-on _ _ _ _ (l .loop .inv) (r .before .before .before .loop-test .taken) (r .before .if2 .left) (r .read .result) (r .read .ensures) (bytes l) (c .before .if3 .left))
+    let r = c .before .before .before .before .before .before in
+    let l = r .before .before .before in
+    let more = goes-on _ _ (block l) _ (l .loop .inv) (r .before .before .loop-test .taken) (r .before .if2 .left) (r .read .result) (r .read .ensures) (bytes l) (c .before .before .before .before .if3 .left) in
+    let es = set (l .loop .entries) (l .loop .entry-count) (r .read .result .entry) in
+    let n = l .loop .entry-count + 1 in
+    subst (λ (b : Bool). Reading (region l) (at l) (made es n b (c .animation-after .result)) (r .read .result .next)) (sym (c .before .animated-after .ensures))
+    (subst (λ (y : Animation). Reading (region l) (at l) (made es n (select (eqb (r .read .result .entry .tag) 5) true (l .loop .animated)) y) (r .read .result .next))
+    (sym (c .animation-after .ensures)) more)
 
 returns-4 : tie.Need-returns-4 Inv-loop μ-loop
-returns-4 c = let l = c .before in ends _ _ _ _ (l .loop .inv) (c .loop-test .left) ∙ ap (blockAnswer (at l)) (short l)
+returns-4 c = let l = c .before in ends _ _ (block l) _ (l .loop .inv) (c .loop-test .left) ∙ ap (blockAnswer (at l)) (short l)
 
 pub read-spec : {M : Type 1} → statement M
 read-spec =
@@ -102,6 +139,7 @@ read-spec =
     μ-loop
     refused-requires
     returns
+    zero-entry-requires
     refused-requires-2
     loop-holds
     cast-if2
@@ -110,7 +148,12 @@ read-spec =
     read-requires
     refused-requires-4
     returns-3
-    added-requires
+    cast-entries
+    mul-entries
+    array-set-from-entries
+    add-entry-count
+    animated-after-requires
+    animation-after-requires
     loop-less
     loop-again
     returns-4)

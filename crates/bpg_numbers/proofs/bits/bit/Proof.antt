@@ -1,41 +1,26 @@
 -- `bits::bit` meets its contract. Assumes nothing.
-use Prim.Native.Nat.{ℕ, _-_, _*_, _/_, _%_, _^_, _≤_, _<_}
+use Prim.Native.Nat.{ℕ, _/_, _≤_}
 use mathlib.Core.Path.{_≡_, sym, ap}
 use mathlib.Core.Bool.{false}
 use mathlib.Core.List.{List}
 use native.Mathlib.Omega.{arith}
 use lib.ListN.{length, getD, List·getD-eq-default}
 use Rattle.bpg_codec.specs.Bits.{bit, unpack}
-use Rattle.bpg_codec.proofs.Bits.{bit-of-number, getD-unpack, length-unpack}
-use borrow.Author.Needs.{needs}
+use Rattle.bpg_codec.proofs.Bits.{length-unpack}
 use Rattle.bpg_numbers.proofs.bits.bit.Statement.{statement}
 use Rattle.bpg_numbers.proofs.bits.bit.Tie as tie
 
 past : (l : List ℕ) (k : ℕ) → length l ≤ k / 8 → 0 ≡ bit (getD (unpack l) k false)
 past l k h = sym (ap bit (List·getD-eq-default (unpack l) false (rw length-unpack (omega arith))))
 
-here : (l : List ℕ) (k b : ℕ) → k < 8 * length l → b ≡ getD l (k / 8) 0 → b / 2 ^ (7 - k % 8) % 2 ≡ bit (getD (unpack l) k false)
-here l k b h e = rw (e, getD-unpack l k h, bit-of-number (getD l (k / 8) 0 / 2 ^ (7 - k % 8) % 2) (omega arith))
-
 returns : tie.Need-returns
 returns c = past _ _ (omega arith)
 
-shared-slice-read-wide : tie.Need-shared-slice-read-wide
-shared-slice-read-wide c = search needs
-
-wide-requires : tie.Need-wide-requires
-wide-requires c κs = search needs
-
-sub-result : tie.Need-sub-result
-sub-result c = search needs
-
-shr-result : tie.Need-shr-result
-shr-result c = search needs
+bit-inside-requires : tie.Need-bit-inside-requires
+bit-inside-requires c κs = omega (arith, c .if1 .left)
 
 returns-2 : tie.Need-returns-2
-returns-2 c = here _ _ _ (omega arith) (c .wide .ensures)
+returns-2 c = c .bit-inside .ensures
 
 pub bit-spec : {M : Type 1} → statement M
-bit-spec =
-    tie.close
-    (tie.spec returns shared-slice-read-wide wide-requires sub-result shr-result returns-2)
+bit-spec = tie.close (tie.spec returns bit-inside-requires returns-2)

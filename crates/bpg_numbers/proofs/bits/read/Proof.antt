@@ -4,13 +4,13 @@ use mathlib.Core.Path.{_≡_, ap, _∙_}
 use mathlib.Core.Bool.{Bool, false}
 use mathlib.Core.List.{List}
 use native.Mathlib.Omega.{arith}
-use lib.ListN.{length, take, drop, getD, length-drop}
+use lib.ListN.{length, take, drop, getD, length-take, length-drop}
 use lib.Pow.{pow-mono, pow-pos}
 use borrow.Author.Needs.{needs}
 use borrow.Author.Tests.{le-leb, lt-leb}
 use Rattle.bpg_codec.specs.Outcome.{ok, error, located}
 use Rattle.bpg_codec.specs.Bits.{bit, number, numberFrom, unpack}
-use Rattle.bpg_codec.proofs.Bits.{bit-small}
+use Rattle.bpg_codec.proofs.Bits.{bit-small, length-unpack}
 use Rattle.bpg_codec.proofs.Lists.{drop-next}
 use Rattle.bpg_numbers.specs.BitNumbers.{regionBits, unsigned}
 use Rattle.bpg_numbers.proofs.BitNumberLaws.{region-bit}
@@ -54,10 +54,10 @@ ending c =
     let l = c .before .loop in
     omega (arith, l .inv .2, pow-mono {i = l .next - c .before .before .before .before .before .before .before .args .at .0} {j = 32} (omega arith))
 
-one-bit : (c : tie.After-bit Inv-loop μ-loop) → c .bit .result < 2
+one-bit : (c : tie.After-bit-inside Inv-loop μ-loop) → c .bit-inside .result < 2
 one-bit c =
     let st = c .before .before .before .before .before .before .before .before in
-    omega (arith, c .bit .ensures, bit-small (getD (unpack (st .args .region .now)) (c .before .before .loop .next) false))
+    omega (arith, c .bit-inside .ensures, bit-small (getD (unpack (st .args .region .now)) (c .before .before .loop .next) false))
 
 least-requires : tie.Need-least-requires Inv-loop μ-loop
 least-requires c κs = search needs
@@ -82,8 +82,10 @@ loop-holds c = let st = c .before .before .before .before .before in
 mul-value : tie.Need-mul-value Inv-loop μ-loop
 mul-value c = omega (arith, turning c)
 
-bit-requires : tie.Need-bit-requires Inv-loop μ-loop
-bit-requires c κs = search needs
+bit-inside-requires : tie.Need-bit-inside-requires Inv-loop μ-loop
+bit-inside-requires c κs =
+    let st = c .before .before .before .before .before .before .before in
+    omega (arith, length-unpack (take (2 ^ 60) (st .args .region .now)), length-take (2 ^ 60) (st .args .region .now))
 
 add-value : tie.Need-add-value Inv-loop μ-loop
 add-value c = omega (arith, turning (c .before), one-bit c)
@@ -102,7 +104,7 @@ loop-again c = let l = c .before .before .loop in
       omega arith,
       rw n (omega (arith, one-bit c)),
       step (regionBits (st .args .region .now)) (l .next) _ (l .value) _ _ (c .before .loop-test .taken) (omega arith)
-          (c .bit .ensures ∙ ap bit (region-bit (st .args .region .now) (l .next) (omega arith)))
+          (c .bit-inside .ensures ∙ ap bit (region-bit (st .args .region .now) (l .next) (omega arith)))
           (l .inv .3),
     )
 
@@ -129,7 +131,7 @@ read-spec =
     add-past
     loop-holds
     mul-value
-    bit-requires
+    bit-inside-requires
     add-value
     add-next
     loop-less

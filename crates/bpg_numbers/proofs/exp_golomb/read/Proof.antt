@@ -1,15 +1,15 @@
 -- `exp_golomb::read` meets its contract. The invariant: counting on from the next bit gives what counting from the first does.
 -- Assumes nothing.
-use Prim.Native.Nat.{ℕ, _+_, _-_, _≤_, _<_}
+use Prim.Native.Nat.{ℕ, _+_, _-_, _^_, _≤_, _<_}
 use mathlib.Core.Path.{_≡_, refl, sym, ap, _∙_}
 use mathlib.Core.Bool.{Bool, true, false}
 use mathlib.Core.List.{List, _∷_}
 use native.Mathlib.Omega.{arith}
-use lib.ListN.{length, drop, getD, drop-of-length-le}
+use lib.ListN.{length, take, drop, getD, length-take, drop-of-length-le}
 use borrow.Author.Needs.{needs}
 use Rattle.bpg_codec.specs.Outcome.{Outcome, error, located}
 use Rattle.bpg_codec.specs.Bits.{bit}
-use Rattle.bpg_codec.proofs.Bits.{bit-is-one, bit-not-one}
+use Rattle.bpg_codec.proofs.Bits.{bit-is-one, bit-not-one, length-unpack}
 use Rattle.bpg_codec.proofs.Lists.{drop-next}
 use Rattle.bpg_numbers.specs.BitNumbers.{regionBits, prefixDecode, expGolombSuffix, expGolomb}
 use Rattle.bpg_numbers.proofs.BitNumberLaws.{region-bit, prefix-end, prefix-one, prefix-zero, prefix-long}
@@ -47,9 +47,9 @@ module _ (start z next : ℕ) (l : List Bool) (i : ℕ) (inv : prefixDecode i 0 
 -- ---- the needs
 
 -- the bit that was looked at
-seen : (c : tie.After-bit Inv-loop μ-loop)
-    → c .bit .result ≡ bit (getD (regionBits (c .before .before .before .before .before .args .region .now)) (c .before .before .loop .next) false)
-seen c = c .bit .ensures ∙ ap bit (region-bit (c .before .before .before .before .before .args .region .now) (c .before .before .loop .next) (omega arith))
+seen : (c : tie.After-bit-inside Inv-loop μ-loop)
+    → c .bit-inside .result ≡ bit (getD (regionBits (c .before .before .before .before .before .args .region .now)) (c .before .before .loop .next) false)
+seen c = c .bit-inside .ensures ∙ ap bit (region-bit (c .before .before .before .before .before .args .region .now) (c .before .before .loop .next) (omega arith))
 
 count-requires : tie.Need-count-requires Inv-loop μ-loop
 count-requires c κs = search needs
@@ -57,8 +57,10 @@ count-requires c κs = search needs
 loop-holds : tie.Need-loop-holds Inv-loop μ-loop
 loop-holds c = (omega arith, λ i. refl)
 
-bit-requires : tie.Need-bit-requires Inv-loop μ-loop
-bit-requires c κs = search needs
+bit-inside-requires : tie.Need-bit-inside-requires Inv-loop μ-loop
+bit-inside-requires c κs =
+    let l = c .before .before .before .before .args .region .now in
+    omega (arith, length-unpack (take (2 ^ 60) l), length-take (2 ^ 60) l)
 
 add-t8 : tie.Need-add-t8 Inv-loop μ-loop
 add-t8 c = omega arith
@@ -95,7 +97,7 @@ read-spec =
     μ-loop
     count-requires
     loop-holds
-    bit-requires
+    bit-inside-requires
     add-t8
     suffix-requires
     returns

@@ -1,0 +1,15 @@
+-- `block::animation_after` meets its contract. Assumes nothing.
+use mathlib.Core.Path.{sym}
+use borrow.Author.Tests.{eq-eqb, ne-eqb}
+use Rattle.bpg_codec.proofs.Select.{select-true, select-false}
+use Rattle.bpg_entries.proofs.block.animation_after.Statement.{statement}
+use Rattle.bpg_entries.proofs.block.animation_after.Tie as tie
+
+returns : tie.Need-returns
+returns c = sym (select-true _ _ (eq-eqb _ _ (c .if1 .taken)))
+
+returns-2 : tie.Need-returns-2
+returns-2 c = sym (select-false _ _ (ne-eqb _ _ (c .if1 .left)))
+
+pub animation-after-spec : {M : Type 1} → statement M
+animation-after-spec = tie.close (tie.spec returns returns-2)
