@@ -1,22 +1,32 @@
--- The line's two cases, and how long it is: every line fits the line buffer. Assumes nothing.
+-- The cases of the summary and of the line, and how long the line is: every line fits the line buffer. Assumes nothing.
 use mathlib.Core.Path.{_≡_}
 use mathlib.Core.Bool.{Bool, true, false}
+use mathlib.Core.List.{List}
 use Prim.Native.Nat.{ℕ, _+_, _^_, _≤_, _<_}
 use native.Mathlib.Decide.{ℕ-discrete}
 use native.Mathlib.Omega.{arith}
 use lib.ListN.{length, length-append}
 use mir.Val.{WT}
 use denote.Struct.Laws.{val}
-use borrow.Author.Tests.{eq-eqb, ne-eqb}
+use borrow.Author.Tests.{eq-eqb, ne-eqb, lt-ltb, le-ltb}
 use Rattle.bpg_codec.proofs.Select.{select-true, select-false}
 use Rattle.bpg_format.proofs.record.Record.{the-type}
 use Rattle.bpg_format.proofs.record.Record.Laws.{the-laws}
 use Rattle.bpg_format.specs.declared.record.Record.{Record}
 use Rattle.bpg_format.specs.declared.answer.Reading.{Reading}
+use Rattle.bpg_format.specs.Records.{readFile}
 use Rattle.bpg_summary.specs.Text.{ascii}
-use Rattle.bpg_summary.specs.Summary.{alphaText, rangeText, animationText, acceptedLine, refusedLine, lineOf}
+use Rattle.bpg_summary.specs.Summary.{alphaText, rangeText, animationText, acceptedLine, refusedLine, lineOf, summaryLimit, summaryOf}
 use Rattle.bpg_summary.specs.LineBuffer.{lineSize}
 use Rattle.bpg_summary.proofs.DecimalLaws.{decimal-most}
+
+-- ---- the summary's two cases
+
+pub summary-long : (f : List ℕ) → summaryLimit < length f → summaryOf f ≡ refusedLine 1 0
+summary-long f h = select-true _ _ (lt-ltb _ _ h)
+
+pub summary-read : (f : List ℕ) → length f ≤ summaryLimit → summaryOf f ≡ lineOf (readFile f)
+summary-read f h = select-false _ _ (le-ltb _ _ h)
 
 -- ---- the line's two cases
 
