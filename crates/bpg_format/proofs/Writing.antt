@@ -141,7 +141,7 @@ content-passes c r =
 
 -- ---- the record
 
-in-source-sound : (source : List ℕ) (es : List Entry) → T (entriesInSource source es) → All (λ (e : Entry). e .payload .start + e .payload .length ≤ length source) es
+pub in-source-sound : (source : List ℕ) (es : List Entry) → T (entriesInSource source es) → All (λ (e : Entry). e .payload .start + e .payload .length ≤ length source) es
 in-source-sound source [] t = tt
 in-source-sound source (e ∷ es) t =
     (leb→le _ _ (and-left (inSource source (e .payload)) _ t), in-source-sound source es (and-right (inSource source (e .payload)) _ t))

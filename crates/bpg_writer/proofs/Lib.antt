@@ -1,0 +1,7 @@
+-- Laws of writing.
+pub mod LayoutLaws
+pub mod PutLaws
+pub mod PartLaws
+pub mod JudgedLaws
+pub mod SizeLaws
+pub mod FileLaws

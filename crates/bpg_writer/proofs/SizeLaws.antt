@@ -1,0 +1,142 @@
+-- What is measured is the length of the file, and what is written is the file. Assumes nothing.
+use mathlib.Core.Path.{_≡_, refl, sym, ap, ap₂, _∙_}
+use mathlib.Core.Bool.{Bool, true, false, _||_}
+use mathlib.Core.List.{List, [], _∷_, _++_, map, append-assoc}
+use Prim.Native.Nat.{ℕ, _+_, _≤_}
+use native.Mathlib.Omega.{arith}
+use lib.ListN.{length, take, getD, length-append}
+use Rattle.bpg_codec.specs.Select.{select}
+use Rattle.bpg_codec.specs.Lawful.{All}
+use Rattle.bpg_codec.specs.Bits.{bytesFor, padded}
+use Rattle.bpg_codec.proofs.Packed.{length-padded}
+use Rattle.bpg_numbers.specs.Ue7.{ue7Bytes}
+use Rattle.bpg_numbers.specs.declared.bit_buffer.BitBuffer.{BitBuffer}
+use Rattle.bpg_format.specs.declared.record.Entry.{Entry}
+use Rattle.bpg_format.specs.declared.record.Header.{Header}
+use Rattle.bpg_format.specs.declared.record.Record.{Record}
+use Rattle.bpg_format.specs.Zero.{zeroHeader}
+use Rattle.bpg_format.specs.Syntax.{blockBytes, extensionBytes, extensionPart, headerBits, headerBytes, bodyBytes, dataLength, fileOf}
+use Rattle.bpg_format.specs.Records.{bytesIn, extensionOf, usedEntries, contentOf}
+use Rattle.bpg_writer.specs.Layouts.{entriesSize, extensionSize, headerSize, bodySize, layoutOf}
+use Rattle.bpg_writer.specs.Parts.{RangeInside, headPart, entriesPart, blockPart, headerPart, bodyPart, filePart}
+use Rattle.bpg_writer.proofs.PartLaws.{range-length}
+use Rattle.bpg_writer.proofs.JudgedLaws.{Judged}
+
+-- ---- the entries
+
+pub entries-measured : (source : List ℕ) (es : List Entry) → All (RangeInside (length source)) es → length (blockBytes (map (extensionOf source) es)) ≡ entriesSize es
+entries-measured source [] a = refl
+entries-measured source (e ∷ es) a =
+    let p = bytesIn source (e .payload) in
+    let n = range-length source (e .payload) (a .0) in
+    let m = ap (λ (k : ℕ). length (ue7Bytes k)) n in
+    omega (
+      arith,
+      length-append (extensionBytes (extensionOf source e)) (blockBytes (map (extensionOf source) es)),
+      length-append (ue7Bytes (e .tag)) (ue7Bytes (length p) ++ p),
+      length-append (ue7Bytes (length p)) p,
+      n,
+      m,
+      entries-measured source es (a .1),
+    )
+
+-- ---- a header's bits in a buffer
+
+pub record Encoded (h : Header) (b : BitBuffer) : Type 0 where
+  pub len-is : b .len .0 ≡ length (headerBits h)
+  pub bytes-are : take (bytesFor (b .len .0)) (b .bytes) ≡ padded (headerBits h)
+
+module _ (h : Header) (b : BitBuffer) (e : Encoded h b) where
+  size-is : bytesFor (b .len .0) ≡ length (padded (headerBits h))
+  size-is = ap bytesFor (e .len-is) ∙ sym (length-padded (headerBits h))
+
+  header-part : (t : Bool) → headerPart t b ≡ select t (headerBytes h) []
+  unfolding headerBytes
+  header-part t = ap (λ (l : List ℕ). select t l []) (ap₂ (λ (n : ℕ) (l : List ℕ). ue7Bytes n ++ l) size-is (e .bytes-are))
+
+  header-measured : (t : Bool) → length (select t (headerBytes h) []) ≡ headerSize t (b .len .0)
+  unfolding select headerBytes
+  header-measured true = length-append (ue7Bytes (length (padded (headerBits h)))) (padded (headerBits h)) ∙ ap (λ (n : ℕ). length (ue7Bytes n) + n) (sym size-is)
+  header-measured false = refl
+
+extension-measured : (t : Bool) (l : List ℕ) (n : ℕ) → length l ≡ n → length (select t (ue7Bytes (length l) ++ l) []) ≡ extensionSize t n
+unfolding select
+extension-measured true l n e = length-append (ue7Bytes (length l)) l ∙ ap (λ (k : ℕ). length (ue7Bytes k) + k) e
+extension-measured false l n e = refl
+
+-- without the flag there is no entry
+extension-holds : (t : Bool) (l : List ℕ) → (t ≡ false → l ≡ []) → length l ≤ length (select t (ue7Bytes (length l) ++ l) [])
+unfolding select
+extension-holds true l n = omega (arith, length-append (ue7Bytes (length l)) l)
+extension-holds false l n = omega (arith, ap length (n refl))
+
+-- ---- the file
+
+module _ (r : Record) (source : List ℕ) (j : Judged r source) (a c : BitBuffer) (ea : Encoded (getD (r .headers) 0 zeroHeader) a)
+    (ec : Encoded (getD (r .headers) 1 zeroHeader) c) where
+  abbrev alpha : Bool
+  alpha = r .«alpha1_flag» || r .«alpha2_flag»
+
+  abbrev alphaBytes : List ℕ
+  alphaBytes = select alpha (headerBytes (getD (r .headers) 0 zeroHeader)) []
+
+  abbrev colorBytes : List ℕ
+  colorBytes = headerBytes (getD (r .headers) 1 zeroHeader)
+
+  body-part : bodyPart alpha a c source (r .«data») ≡ bodyBytes (contentOf r source)
+  unfolding bodyBytes contentOf select
+  body-part =
+      ap₂ (λ (x y : List ℕ). x ++ (y ++ bytesIn source (r .«data»))) (header-part (getD (r .headers) 0 zeroHeader) a ea alpha) (header-part (getD (r .headers) 1 zeroHeader) c ec true)
+
+  pub body-measured : bodySize r (a .len .0) (c .len .0) ≡ length (bodyBytes (contentOf r source))
+  unfolding bodyBytes contentOf select
+  body-measured =
+      let d = bytesIn source (r .«data») in
+      omega (
+        arith,
+        length-append alphaBytes (colorBytes ++ d),
+        length-append colorBytes d,
+        header-measured (getD (r .headers) 0 zeroHeader) a ea alpha,
+        header-measured (getD (r .headers) 1 zeroHeader) c ec true,
+        range-length source (r .«data») (j .data-inside),
+      )
+
+  abbrev size : ℕ
+  size = bodySize r (a .len .0) (c .len .0)
+
+  -- the parts are the file
+  pub file-is : filePart r source size a c ≡ fileOf (contentOf r source)
+  unfolding fileOf dataLength extensionPart contentOf
+  file-is =
+      ap₂ (λ (n : ℕ) (l : List ℕ). headPart r (select (r .«explicit_length») n 0) ++ (blockPart r source ++ l)) body-measured body-part ∙ simp append-assoc
+
+  pub total-measured : layoutOf r (a .len .0) (c .len .0) .total ≡ length (fileOf (contentOf r source))
+  total-measured =
+      let n = select (r .«explicit_length») size 0 in
+      let w = ue7Bytes (r .«picture_width») in
+      let h = ue7Bytes (r .«picture_height») in
+      let d = bodyPart alpha a c source (r .«data») in
+      omega (
+        arith,
+        sym (ap length file-is),
+        length-append (headPart r n) (blockPart r source ++ d),
+        length-append (blockPart r source) d,
+        length-append w (h ++ ue7Bytes n),
+        length-append h (ue7Bytes n),
+        ap length body-part,
+        body-measured,
+        extension-measured (r .«extension_present_flag») (entriesPart r source) (entriesSize (usedEntries r)) (entries-measured source (usedEntries r) (j .payloads)),
+      )
+
+  pub block-inside : entriesSize (usedEntries r) ≤ length (fileOf (contentOf r source))
+  block-inside =
+      let n = select (r .«explicit_length») size 0 in
+      let d = bodyPart alpha a c source (r .«data») in
+      omega (
+        arith,
+        sym (ap length file-is),
+        length-append (headPart r n) (blockPart r source ++ d),
+        length-append (blockPart r source) d,
+        entries-measured source (usedEntries r) (j .payloads),
+        extension-holds (r .«extension_present_flag») (entriesPart r source) (λ e. ap blockBytes (j .no-block e)),
+      )

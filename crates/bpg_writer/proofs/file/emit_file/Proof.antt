@@ -1,0 +1,129 @@
+-- `file::emit_file` meets its contract. Assumes nothing.
+use mathlib.Core.Path.{_≡_, ap}
+use mathlib.Core.Bool.{Bool, true, false, _||_}
+use mathlib.Core.List.{List, _++_}
+use Prim.Native.Nat.{ℕ, _+_, _≤_}
+use native.Mathlib.Omega.{arith}
+use lib.ListN.{length, length-append}
+use Rattle.bpg_codec.specs.Select.{select}
+use Rattle.bpg_format.specs.Limits.{maxFile}
+use Rattle.bpg_writer.specs.Parts.{headPart, blockPart, bodyPart}
+use Rattle.bpg_writer.proofs.PutLaws.{Put, put-end, put-same, put-three}
+use borrow.Author.Needs.{needs}
+use Rattle.bpg_writer.proofs.file.emit_file.Statement.{statement}
+use Rattle.bpg_writer.proofs.file.emit_file.Tie as tie
+
+-- the parts, and that they fit
+module _ (s : tie.Start) where
+  abbrev head-part : List ℕ
+  head-part = headPart (s .args .«record») (select (s .args .«record» .«explicit_length») (s .args .layout .body) 0)
+
+  abbrev block-part : List ℕ
+  block-part = blockPart (s .args .«record») (s .args .source .now)
+
+  abbrev body-part : List ℕ
+  body-part = bodyPart (s .args .«record» .«alpha1_flag» || s .args .«record» .«alpha2_flag») (s .args .alpha) (s .args .color) (s .args .source .now) (s .args .«record» .«data»)
+
+  fits : length head-part + (length block-part + length body-part) ≤ length (s .args .out .now)
+  fits = omega (arith, s .pre .1 .1 .1 .1 .1 .1 .1 .1 .1 .1, length-append head-part (block-part ++ body-part), length-append block-part body-part)
+
+  -- the data length is one of a file
+  coded : (t : Bool) → select t (s .args .layout .body) 0 ≤ maxFile
+  unfolding select
+  coded true = s .pre .1 .1 .1 .1 .1 .1 .1 .1 .1 .0 .1
+  coded false = omega arith
+
+-- the data length was chosen
+module _ (c : tie.After-data-length) where
+  head-is : headPart (c .before .before .before .args .«record») (c .data-length .result) ≡ head-part (c .before .before .before)
+  head-is = ap (headPart (c .before .before .before .args .«record»)) (c .data-length .ensures)
+
+  length-small : c .data-length .result ≤ maxFile
+  length-small = omega (arith, c .data-length .ensures, coded (c .before .before .before) (c .before .before .before .args .«record» .«explicit_length»))
+
+-- the head was written
+module _ (c : tie.After-head) where
+  abbrev chosen : tie.After-data-length
+  chosen = c .before .before
+
+  abbrev start : tie.Start
+  start = chosen .before .before .before
+
+  head-put : Put (start .args .out .now) 0 (head-part start) (c .head .last .0) (c .head .result .0)
+  head-put = put-same (start .args .out .now) 0 _ _ _ _ (head-is chosen) (c .head .ensures)
+
+  head-end : (c .head .result .0 ≡ 0 + length (head-part start)) × (length (c .head .last .0) ≡ length (start .args .out .now))
+  head-end = put-end (start .args .out .now) 0 (head-part start) _ _ (omega (arith, fits start)) head-put
+
+-- and whether there is a plane of alpha is known
+body-is : (c : tie.After-has-alpha)
+    → let s = c .before .before .before .before .before .before .before .before .before .before .before .before .before in
+    bodyPart (c .has-alpha .result) (s .args .alpha) (s .args .color) (s .args .source .now) (s .args .«record» .«data») ≡ body-part s
+body-is c =
+    let s = c .before .before .before .before .before .before .before .before .before .before .before .before .before in
+    ap (λ (t : Bool). bodyPart t (s .args .alpha) (s .args .color) (s .args .source .now) (s .args .«record» .«data»)) (c .has-alpha .ensures)
+
+data-length-requires : tie.Need-data-length-requires
+data-length-requires c κs = search needs
+
+cast-head : tie.Need-cast-head
+cast-head c = omega (arith, length-small (c .before))
+
+head-requires : tie.Need-head-requires
+head-requires c κs =
+    let d = c .before in
+    let s = d .before .before .before in
+    (s .pre .0, (s .pre .1 .0, (s .pre .1 .1 .0, omega (arith, fits s, ap length (head-is d)))))
+
+cast-block : tie.Need-cast-block
+cast-block c = search needs
+
+block-requires : tie.Need-block-requires
+block-requires c κs =
+    let h = c .before .before .before .before in
+    let d = h .before .before in
+    let s = d .before .before .before in
+    let p = s .pre .1 .1 .1 in
+    let e = head-end h in
+    (p .0, (p .1 .0, (p .1 .1 .1 .1 .1 .0, omega (arith, fits s, e .0, e .1))))
+
+has-alpha-requires : tie.Need-has-alpha-requires
+has-alpha-requires c κs = search needs
+
+body-requires : tie.Need-body-requires
+body-requires c κs =
+    let a = c .before .before in
+    let b = a .before .before .before in
+    let h = b .before .before .before .before .before in
+    let s = h .before .before .before .before .before in
+    let p = s .pre .1 .1 .1 .1 .1 in
+    let e = head-end h in
+    let f = put-end (h .head .last .0) (h .head .result .0) (block-part s) _ _ (omega (arith, fits s, e .0, e .1)) (b .block .ensures) in
+    (p .1 .0, (p .1 .1 .0, (p .0, omega (arith, fits s, e .0, e .1, f .0, f .1, ap length (body-is a)))))
+
+same-length : tie.Need-same-length
+same-length c = search needs
+
+returns : tie.Need-returns
+returns c =
+    let w = c .before .before in
+    let a = w .before .before .before in
+    let b = a .before .before .before in
+    let h = b .before .before .before .before .before in
+    let s = h .before .before .before .before .before in
+    put-three (s .args .out .now) 0 (head-part s) (block-part s) (body-part s) _ _ _ _ _ _ (head-put h) (b .block .ensures)
+    (put-same (b .block .last .0) (b .block .result .0) _ _ _ _ (body-is a) (w .body .ensures)) (omega (arith, fits s, length-append (head-part s) (block-part s ++ body-part s), length-append (block-part s) (body-part s))) .0
+
+pub emit-file-spec : {M : Type 1} → statement M
+emit-file-spec =
+    tie.close
+    (tie.spec
+    data-length-requires
+    cast-head
+    head-requires
+    cast-block
+    block-requires
+    has-alpha-requires
+    body-requires
+    same-length
+    returns)

@@ -1,0 +1,225 @@
+-- `file::write` meets its contract. Assumes nothing.
+use mathlib.Core.Path.{_≡_, sym, ap, _∙_}
+use mathlib.Core.List.{List}
+use Prim.Native.Nat.{ℕ, _≤_}
+use native.Mathlib.Omega.{arith}
+use lib.ListN.{length, getD, length-map}
+use Rattle.bpg_codec.specs.Outcome.{ok}
+use Rattle.bpg_codec.specs.Bits.{padded}
+use Rattle.bpg_codec.specs.Buffer.{written}
+use Rattle.bpg_format.specs.declared.record.Header.{Header}
+use Rattle.bpg_format.specs.declared.record.Record.{Record}
+use Rattle.bpg_format.specs.Zero.{zeroHeader}
+use Rattle.bpg_format.specs.Syntax.{headerBits, fileOf}
+use Rattle.bpg_format.specs.Records.{usedEntries, contentOf}
+use Rattle.bpg_format.proofs.record.Header as header-type
+use Rattle.bpg_check.specs.Check.{checkRecord}
+use Rattle.bpg_check.proofs.ConsistentLaws.{header-at}
+use Rattle.bpg_check.proofs.Judgement.{check-passes}
+use Rattle.bpg_writer.specs.declared.layout.Layout.{Layout}
+use Rattle.bpg_writer.specs.Parts.{entriesPart, filePart}
+use Rattle.bpg_writer.proofs.JudgedLaws.{Judged, judged}
+use Rattle.bpg_writer.proofs.SizeLaws.{Encoded, entries-measured, file-is, total-measured, block-inside}
+use Rattle.bpg_writer.proofs.FileLaws.{judged-out, too-long, too-small, file-written}
+use borrow.Author.Needs.{needs}
+use Rattle.bpg_writer.proofs.file.write.Statement.{statement}
+use Rattle.bpg_writer.proofs.file.write.Tie as tie
+
+-- the record passed the judging
+module _ (c : tie.Else1) where
+  abbrev start : tie.Start
+  start = c .before .before .before .before
+
+  abbrev source : List ℕ
+  source = start .args .source .now
+
+  abbrev out : List ℕ
+  out = start .args .out .now
+
+  passed : checkRecord (start .args .t1) source ≡ ok tt
+  passed = check-passes (start .args .t1) source (sym (c .before .«record» .ensures) ∙ c .if1 .left)
+
+  known : Judged (start .args .t1) source
+  known = judged (start .args .t1) source passed
+
+-- and its headers were encoded
+module _ (c : tie.After-encode2) where
+  abbrev begun : tie.Else1
+  begun = c .before .before .before .before
+
+  abbrev r : Record
+  r = start begun .args .t1
+
+  two : length (r .headers) ≡ 2
+  two = sym (length-map (r .headers) (header-type.the-field .into)) ∙ start begun .good .0 .1 .1 .1 .1 .1 .1 .1 .1 .1 .1 .1 .1 .1 .1 .1 .1 .1 .1 .0 .1 .0 .1
+
+  alpha-encoded : Encoded (getD (r .headers) 0 zeroHeader) (c .before .encode .result)
+  alpha-encoded =
+      let e = header-at (r .headers) 0 two (omega arith) in
+      record {
+        len-is = c .before .encode .ensures .0 ∙ ap (λ (h : Header). length (headerBits h)) e;
+        bytes-are = c .before .encode .ensures .1 .1 ∙ ap (λ (h : Header). padded (headerBits h)) e;
+      }
+
+  color-encoded : Encoded (getD (r .headers) 1 zeroHeader) (c .encode2 .result)
+  color-encoded =
+      let e = header-at (r .headers) 1 two (omega arith) in
+      record {
+        len-is = c .encode2 .ensures .0 ∙ ap (λ (h : Header). length (headerBits h)) e;
+        bytes-are = c .encode2 .ensures .1 .1 ∙ ap (λ (h : Header). padded (headerBits h)) e;
+      }
+
+  narrow : (c .before .encode .result .len .0 ≤ 512) × (c .encode2 .result .len .0 ≤ 512)
+  narrow = (omega (arith, c .before .encode .ensures .1 .0), omega (arith, c .encode2 .ensures .1 .0))
+
+-- and the file was measured
+module _ (c : tie.After-measure) where
+  abbrev coded : tie.After-encode2
+  coded = c .before
+
+  abbrev file : List ℕ
+  file = fileOf (contentOf (r coded) (source (begun coded)))
+
+  total-is : c .measure .result .total ≡ length file
+  total-is =
+      ap (λ (l : Layout). l .total) (c .measure .ensures)
+      ∙ total-measured (r coded) (source (begun coded)) (known (begun coded)) (coded .before .encode .result) (coded .encode2 .result) (alpha-encoded coded) (color-encoded coded)
+
+  block-is : c .measure .result .block ≡ length (entriesPart (r coded) (source (begun coded)))
+  block-is =
+      ap (λ (l : Layout). l .block) (c .measure .ensures)
+      ∙ sym (entries-measured (source (begun coded)) (usedEntries (r coded)) (known (begun coded) .payloads))
+
+  block-most : c .measure .result .block ≤ length file
+  block-most =
+      omega (
+        arith,
+        ap (λ (l : Layout). l .block) (c .measure .ensures),
+        block-inside (r coded) (source (begun coded)) (known (begun coded)) (coded .before .encode .result) (coded .encode2 .result) (alpha-encoded coded) (color-encoded coded),
+      )
+
+  body-most : c .measure .result .body ≤ c .measure .result .total
+  body-most = omega (arith, ap (λ (l : Layout). l .body) (c .measure .ensures), ap (λ (l : Layout). l .total) (c .measure .ensures))
+
+  file-part : filePart (r coded) (source (begun coded)) (c .measure .result .body) (coded .before .encode .result) (coded .encode2 .result) ≡ file
+  file-part =
+      ap (λ (l : Layout). filePart (r coded) (source (begun coded)) (l .body) (coded .before .encode .result) (coded .encode2 .result)) (c .measure .ensures)
+      ∙ file-is (r coded) (source (begun coded)) (known (begun coded)) (coded .before .encode .result) (coded .encode2 .result) (alpha-encoded coded) (color-encoded coded)
+
+record-requires : tie.Need-record-requires
+record-requires c κs = search needs
+
+written-refused-requires : tie.Need-written-refused-requires
+written-refused-requires c κs = search needs
+
+returns : tie.Need-returns
+returns c =
+    let j = c .before .before in
+    let s = j .before .before .before in
+    let a = judged-out (s .args .t1) (s .args .source .now) (s .args .out .now) (j .«record» .result) (j .«record» .ensures) (c .before .if1 .taken) in
+    (c .written-refused .ensures ∙ a .0, a .1)
+
+element-copy-out-alpha-header : tie.Need-element-copy-out-alpha-header
+element-copy-out-alpha-header c = search needs
+
+element-copy-out-color-header : tie.Need-element-copy-out-color-header
+element-copy-out-color-header c = search needs
+
+encode-requires : tie.Need-encode-requires
+encode-requires c κs = search needs
+
+encode-requires-2 : tie.Need-encode-requires-2
+encode-requires-2 c κs = search needs
+
+measure-requires : tie.Need-measure-requires
+measure-requires c κs = (known (begun c) .few, (narrow c .0, narrow c .1))
+
+written-refused-requires-2 : tie.Need-written-refused-requires-2
+written-refused-requires-2 c κs = search needs
+
+returns-2 : tie.Need-returns-2
+returns-2 c =
+    let m = c .before .before in
+    let b = begun (coded m) in
+    let a = too-long (r (coded m)) (source b) (out b) (passed b) (omega (arith, c .before .if2 .taken, total-is m)) in
+    (c .written-refused2 .ensures ∙ a .0, a .1)
+
+written-refused-requires-3 : tie.Need-written-refused-requires-3
+written-refused-requires-3 c κs = search needs
+
+returns-3 : tie.Need-returns-3
+returns-3 c =
+    let e = c .before .before in
+    let m = e .before in
+    let b = begun (coded m) in
+    let a = too-small (r (coded m)) (source b) (out b) (passed b) (omega (arith, e .if2 .left, total-is m)) (omega (arith, c .before .if3 .taken, total-is m)) in
+    (c .written-refused3 .ensures ∙ a .0, a .1)
+
+emit-file-requires : tie.Need-emit-file-requires
+emit-file-requires c κs =
+    let t = c .before in
+    let m = t .before .before in
+    let k = known (begun (coded m)) in
+    let n = narrow (coded m) in
+    let short = t .before .if2 .left in (
+      k .format,
+      (
+        k .depth,
+        (
+          k .space,
+          (
+            k .few,
+            (
+              k .payloads,
+              (
+                k .data-inside,
+                (
+                  n .0,
+                  (
+                    n .1,
+                    (
+                      block-is m,
+                      ((omega (arith, short, total-is m, block-most m), omega (arith, short, body-most m)), omega (arith, t .if3 .left, total-is m, ap length (file-part m))),
+                    ),
+                  ),
+                ),
+              ),
+            ),
+          ),
+        ),
+      ),
+    )
+
+same-length : tie.Need-same-length
+same-length c = search needs
+
+returns-4 : tie.Need-returns-4
+returns-4 c =
+    let w = c .before .before in
+    let t = w .before .before in
+    let m = t .before .before in
+    let b = begun (coded m) in
+    let e = total-is m in
+    let a = file-written (r (coded m)) (source b) (out b) (passed b) (omega (arith, t .before .if2 .left, e)) (omega (arith, t .if3 .left, e)) (w .emit-file .last .0)
+    (w .emit-file .ensures ∙ ap (written (out b) 0) (file-part m)) in
+    (ap (λ (n : ℕ). record { status = 0; offset = 0; count = n }) e ∙ a .0, a .1)
+
+pub write-spec : {M : Type 1} → statement M
+write-spec =
+    tie.close
+    (tie.spec
+    record-requires
+    written-refused-requires
+    returns
+    element-copy-out-alpha-header
+    element-copy-out-color-header
+    encode-requires
+    encode-requires-2
+    measure-requires
+    written-refused-requires-2
+    returns-2
+    written-refused-requires-3
+    returns-3
+    emit-file-requires
+    same-length
+    returns-4)

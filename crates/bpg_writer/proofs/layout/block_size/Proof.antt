@@ -1,0 +1,117 @@
+-- `layout::block_size` meets its contract: the size so far is that of the entries so far. Assumes nothing.
+use mathlib.Core.Path.{_≡_, refl, sym, ap, _∙_}
+use Prim.Native.Nat.{ℕ, _-_, _*_, _≤_}
+use native.Mathlib.Omega.{arith}
+use lib.ListN.{length, take, getD, length-map}
+use borrow.Author.Needs.{needs}
+use Rattle.bpg_numbers.proofs.Ue7Laws.{size-most}
+use Rattle.bpg_format.specs.declared.record.Entry.{Entry}
+use Rattle.bpg_format.specs.Zero.{zeroEntry}
+use Rattle.bpg_writer.specs.Layouts.{entriesSize}
+use Rattle.bpg_writer.proofs.LayoutLaws.{entries-next}
+use Rattle.bpg_writer.proofs.layout.block_size.Statement.{statement}
+use Rattle.bpg_writer.proofs.layout.block_size.Tie as tie
+
+-- an entry takes no more
+abbrev most : ℕ
+most = 4294967320
+
+abbrev Inv-loop : tie.InvT-loop
+Inv-loop «record» count size₀ k₀ size k = (k ≤ count) × (size ≡ entriesSize (take k («record» .entries))) × (size ≤ k * most)
+
+abbrev μ-loop : tie.MeasureT-loop
+μ-loop «record» count size₀ k₀ size k = count - k
+
+sixteen : (c : tie.Start Inv-loop μ-loop) → length (c .args .t1 .entries) ≡ 16
+sixteen c = sym (length-map (c .args .t1 .entries) (Rattle.bpg_format.proofs.record.Entry.the-field .into)) ∙ c .good .0 .1 .1 .1 .1 .1 .1 .1 .1 .1 .1 .1 .1 .1 .1 .0 .1 .0 .1
+
+-- an entry was measured
+module _ (c : tie.After-size2 Inv-loop μ-loop) where
+  abbrev start : tie.Start Inv-loop μ-loop
+  start = c .before .before .before .before .before .before .before
+
+  abbrev turn : tie.At-loop Inv-loop μ-loop
+  turn = c .before .before .before .before .before .before
+
+  abbrev entry : Entry
+  entry = getD (start .args .t1 .entries) (turn .loop .k) zeroEntry
+
+  tag-size : c .before .size .result ≤ 10
+  tag-size = omega (arith, c .before .size .ensures, size-most (entry .tag) (omega arith))
+
+  length-size : c .size2 .result ≤ 10
+  length-size = omega (arith, c .size2 .ensures, size-most (entry .payload .length) (omega arith))
+
+cast-count : tie.Need-cast-count Inv-loop μ-loop
+cast-count c = search needs
+
+loop-holds : tie.Need-loop-holds Inv-loop μ-loop
+loop-holds c = (omega arith, refl, omega arith)
+
+mul-entry : tie.Need-mul-entry Inv-loop μ-loop
+mul-entry c = omega (arith, c .before .before .pre)
+
+element-copy-out-entry : tie.Need-element-copy-out-entry Inv-loop μ-loop
+element-copy-out-entry c = omega (arith, c .before .before .pre)
+
+cast-length : tie.Need-cast-length Inv-loop μ-loop
+cast-length c = search needs
+
+cast-size : tie.Need-cast-size Inv-loop μ-loop
+cast-size c = search needs
+
+size-requires : tie.Need-size-requires Inv-loop μ-loop
+size-requires c κs = search needs
+
+size-requires-2 : tie.Need-size-requires-2 Inv-loop μ-loop
+size-requires-2 c κs = search needs
+
+add-size : tie.Need-add-size Inv-loop μ-loop
+add-size c = omega (arith, tag-size c, length-size c)
+
+add-size-2 : tie.Need-add-size-2 Inv-loop μ-loop
+add-size-2 c = omega (arith, tag-size c, length-size c)
+
+add-size-3 : tie.Need-add-size-3 Inv-loop μ-loop
+add-size-3 c = omega (arith, tag-size c, length-size c, turn c .loop .inv .2, start c .pre)
+
+add-k : tie.Need-add-k Inv-loop μ-loop
+add-k c = search needs
+
+loop-less : tie.Need-loop-less Inv-loop μ-loop
+loop-less c = omega arith
+
+loop-again : tie.Need-loop-again Inv-loop μ-loop
+loop-again c =
+    let l = turn c .loop in
+    let n = entries-next (start c .args .t1 .entries) (l .k) (omega (arith, sixteen (start c), start c .pre)) in
+    (omega arith, omega (arith, n, l .inv .1, c .before .size .ensures, c .size2 .ensures), omega (arith, tag-size c, length-size c, l .inv .2))
+
+returns : tie.Need-returns Inv-loop μ-loop
+returns c =
+    let l = c .before .loop in
+    let r = c .before .before .args .t1 in
+    let e : l .k ≡ r .«entry_count» = omega (arith, c .loop-test .left, l .inv .0) in
+    (l .inv .1 ∙ ap (λ (n : ℕ). entriesSize (take n (r .entries))) e, omega (arith, l .inv .2, e, c .before .before .pre))
+
+pub block-size-spec : {M : Type 1} → statement M
+block-size-spec =
+    tie.close
+    (tie.spec
+    Inv-loop
+    μ-loop
+    cast-count
+    loop-holds
+    mul-entry
+    element-copy-out-entry
+    cast-length
+    cast-size
+    size-requires
+    size-requires-2
+    add-size
+    add-size-2
+    add-size-3
+    add-k
+    loop-less
+    loop-again
+    returns)

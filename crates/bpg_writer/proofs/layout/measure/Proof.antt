@@ -1,0 +1,128 @@
+-- `layout::measure` meets its contract. Assumes nothing.
+use Prim.Native.Nat.{_+_, _^_, _≤_, _<_}
+use native.Mathlib.Omega.{arith}
+use Rattle.bpg_numbers.proofs.Ue7Laws.{size-most}
+use Rattle.bpg_writer.proofs.LayoutLaws.{measured}
+use borrow.Author.Needs.{needs}
+use Rattle.bpg_writer.proofs.layout.measure.Statement.{statement}
+use Rattle.bpg_writer.proofs.layout.measure.Tie as tie
+
+-- the sizes of width and height
+module _ (c : tie.After-size2) where
+  width-size : c .before .before .size .result ≤ 10
+  width-size = omega (arith, c .before .before .size .ensures, size-most (c .before .before .before .before .before .before .before .before .before .before .args .«record» .«picture_width») (omega arith))
+
+  height-size : c .size2 .result ≤ 10
+  height-size = omega (arith, c .size2 .ensures, size-most (c .before .before .before .before .before .before .before .before .before .before .args .«record» .«picture_height») (omega arith))
+
+-- and of the data length
+module _ (c : tie.After-size3) where
+  abbrev both : tie.After-size2
+  both = c .before .before
+
+  abbrev extension : tie.After-extension-size
+  extension = c .before .before .before .before .before .before .before .before .before .before
+
+  abbrev alpha : tie.After-header-size
+  alpha = c .before .before .before .before .before .before .before .before
+
+  abbrev color : tie.After-header-size2
+  color = c .before .before .before .before .before .before .before
+
+  data-size : c .size3 .result ≤ 10
+  data-size = omega (arith, c .size3 .ensures, size-most (c .before .data-length .result) (omega arith))
+
+  sum-fits : 6 + (both .before .before .size .result + both .size2 .result + c .size3 .result) + extension .extension-size .result
+      + (alpha .header-size .result + color .header-size2 .result + extension .before .before .args .«record» .«data» .length)
+      < 2 ^ 64
+  sum-fits =
+      omega (arith, width-size both, height-size both, data-size, extension .extension-size .ensures .1, alpha .header-size .ensures .1, color .header-size2 .ensures .1, c .before .before .before .before .before .before .struct-known .given)
+
+block-size-requires : tie.Need-block-size-requires
+block-size-requires c κs = search needs
+
+extension-size-requires : tie.Need-extension-size-requires
+extension-size-requires c κs = search needs
+
+has-alpha-requires : tie.Need-has-alpha-requires
+has-alpha-requires c κs = search needs
+
+header-size-requires : tie.Need-header-size-requires
+header-size-requires c κs = search needs
+
+header-size-requires-2 : tie.Need-header-size-requires-2
+header-size-requires-2 c κs = search needs
+
+add-headers : tie.Need-add-headers
+add-headers c = search needs
+
+cast-body : tie.Need-cast-body
+cast-body c = search needs
+
+add-body : tie.Need-add-body
+add-body c = search needs
+
+cast-size : tie.Need-cast-size
+cast-size c = search needs
+
+size-requires : tie.Need-size-requires
+size-requires c κs = search needs
+
+cast-size-2 : tie.Need-cast-size-2
+cast-size-2 c = search needs
+
+size-requires-2 : tie.Need-size-requires-2
+size-requires-2 c κs = search needs
+
+add-size : tie.Need-add-size
+add-size c = omega (arith, width-size c, height-size c)
+
+data-length-requires : tie.Need-data-length-requires
+data-length-requires c κs = search needs
+
+size-requires-3 : tie.Need-size-requires-3
+size-requires-3 c κs = search needs
+
+add-size-2 : tie.Need-add-size-2
+add-size-2 c = omega (arith, width-size (both c), height-size (both c), data-size c)
+
+add-t16 : tie.Need-add-t16
+add-t16 c = omega (arith, width-size (both c), height-size (both c), data-size c)
+
+add-t10 : tie.Need-add-t10
+add-t10 c = omega (arith, width-size (both c), height-size (both c), data-size c, extension c .extension-size .ensures .1)
+
+add-t17 : tie.Need-add-t17
+add-t17 c = record { fits = sum-fits c }
+
+returns : tie.Need-returns
+returns c =
+    let block = extension c .before in
+    measured (block .before .args .«record») _ _ _ _ _ _ _ _ _ _ _ (block .block-size .ensures .0) (extension c .extension-size .ensures .0)
+    (alpha c .before .has-alpha .ensures) (alpha c .header-size .ensures .0) (color c .header-size2 .ensures .0) (c .before .data-length .ensures)
+    (both c .before .before .size .ensures) (both c .size2 .ensures) (c .size3 .ensures)
+
+pub measure-spec : {M : Type 1} → statement M
+measure-spec =
+    tie.close
+    (tie.spec
+    block-size-requires
+    extension-size-requires
+    has-alpha-requires
+    header-size-requires
+    header-size-requires-2
+    add-headers
+    cast-body
+    add-body
+    cast-size
+    size-requires
+    cast-size-2
+    size-requires-2
+    add-size
+    data-length-requires
+    size-requires-3
+    add-size-2
+    add-t16
+    add-t10
+    add-t17
+    returns)

@@ -1,0 +1,6 @@
+// Writing a record as the file that the syntax gives: judged and measured first, and then written.
+mod emit;
+mod file;
+mod layout;
+
+pub use file::write;
