@@ -21,16 +21,16 @@ use Rattle.bpg_format.specs.Records.{contentOf}
 use Rattle.bpg_format.specs.Write.{rangesInSource, unusedZero, consistent, sameLoop, atZero, checkLoop, checkEntries, fieldsCoded, checkHeader, checkContent, sizedFile, writeOutcome, WritingStatus}
 use Rattle.bpg_format.proofs.ReadingRefusals.{loop-refuses}
 
-abbrev AtZero : (status offset : ℕ) → Type 0
+abbrev pub AtZero : (status offset : ℕ) → Type 0
 AtZero s o = WritingStatus s × (o ≡ 0)
 
-abbrev R : {A : Type 0} → Outcome A → Type 0
+abbrev pub R : {A : Type 0} → Outcome A → Type 0
 R m = Refuses AtZero m
 
-rule : {B : Type 0} (t : Bool) (s : ℕ) (k : Outcome B) → AtZero s 0 → R k → R (guard t s 0 >>= λ _. k)
+pub rule : {B : Type 0} (t : Bool) (s : ℕ) (k : Outcome B) → AtZero s 0 → R k → R (guard t s 0 >>= λ _. k)
 rule t s k h g = refuses-guard AtZero t s 0 k h g
 
-last-rule : (t : Bool) (s : ℕ) → AtZero s 0 → R (guard t s 0)
+pub last-rule : (t : Bool) (s : ℕ) → AtZero s 0 → R (guard t s 0)
 last-rule true s h = refuses-ok AtZero tt
 last-rule false s h = refuses-error AtZero s 0 h
 
@@ -38,14 +38,14 @@ at-zero-refuses : {A : Type 0} (m : Outcome A) → Refuses (λ s o. WritingStatu
 at-zero-refuses (ok a) h = refuses-ok AtZero a
 at-zero-refuses (error s o) h = refuses-error AtZero s 0 (h s o refl, refl)
 
-loop-check : (p : Loop) (l : List ℕ) → R (checkLoop p l)
+pub loop-check : (p : Loop) (l : List ℕ) → R (checkLoop p l)
 unfolding checkLoop
 loop-check p l =
     let own = loop-refuses (λ s o. WritingStatus s) (λ _. omega arith) (λ _. omega arith) (λ _. omega arith) (λ _. omega arith) in
     refuses-bind AtZero (atZero (loopNumbers .decode 0 0 l)) _ (at-zero-refuses (loopNumbers .decode 0 0 l) (own .refuses 0 0 l)) λ x.
     last-rule (sameLoop p (loopFrom (ok x))) 19 (omega arith)
 
-entries-check : (p : Loop) (seen : Bool) (es : List Extension) → R (checkEntries p seen es)
+pub entries-check : (p : Loop) (seen : Bool) (es : List Extension) → R (checkEntries p seen es)
 unfolding checkEntries
 entries-check p seen [] = refuses-ok AtZero tt
 entries-check p seen (e ∷ es) =
@@ -54,12 +54,12 @@ entries-check p seen (e ∷ es) =
     (refuses-select AtZero (isLoop e) _ _ (loop-check p (e .payload)) (refuses-ok AtZero tt)) λ _.
     entries-check p (seen || isLoop e) es)
 
-header-check : (depth : ℕ) (h : Header) → R (checkHeader depth h)
+pub header-check : (depth : ℕ) (h : Header) → R (checkHeader depth h)
 unfolding checkHeader
 header-check depth h =
     rule (fieldsCoded h) 15 _ (omega arith) (rule (noForbiddenBit h) 17 _ (omega arith) (last-rule (hevcAllowed depth h) 16 (omega arith)))
 
-content-check : (c : Content) → R (checkContent c)
+pub content-check : (c : Content) → R (checkContent c)
 unfolding checkContent
 content-check c =
     rule (leb (c .flags .pixelFormat) 5) 4 _ (omega arith)

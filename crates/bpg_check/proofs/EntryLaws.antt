@@ -1,0 +1,231 @@
+-- The entries of a record, one at a time: `es` has those in use first, which are n. Assumes nothing.
+use mathlib.Core.Path.{_≡_, refl, sym, ap, _∙_, subst}
+use mathlib.Core.Bool.{Bool, true, false, not, _&&_, _||_, and-false}
+use mathlib.Core.Logic.{_≢_}
+use mathlib.Core.List.{List, [], _∷_, map}
+use Prim.Native.Nat.{ℕ, zero, suc, _+_, _≤_, _<_}
+use native.Mathlib.Omega.{arith}
+use lib.Dec.{eqb}
+use lib.ListN.{length, take, drop, getD, length-take, drop-of-length-le}
+use lib.Seq.{getD-take, length-take-le}
+use borrow.Author.Tests.{eq-eqb, ne-eqb}
+use Rattle.bpg_codec.specs.Outcome.{Outcome, ok, error, _>>=_, guard}
+use Rattle.bpg_codec.proofs.Select.{select-true, select-false}
+use Rattle.bpg_codec.proofs.Outcome.{bind-assoc}
+use Rattle.bpg_codec.proofs.Lists.{drop-next}
+use Rattle.bpg_codec.proofs.Refusals.{refuses-ok, refuses-select}
+use Rattle.bpg_format.specs.Limits.{maxEntries}
+use Rattle.bpg_format.specs.declared.record.Entry.{Entry}
+use Rattle.bpg_format.specs.declared.record.Record.{Record}
+use Rattle.bpg_format.specs.Content.{Extension, Loop}
+use Rattle.bpg_format.specs.Rules.{isLoop, hasLoop}
+use Rattle.bpg_format.specs.FileCodec.{loopNumbers, loopFrom}
+use Rattle.bpg_format.specs.Records.{extensionOf, usedEntries}
+use Rattle.bpg_format.specs.Write.{inSource, entriesInSource, rangesInSource, isZero, zeroEntries, unusedZero, sameLoop, atZero, checkLoop, checkEntries}
+use Rattle.bpg_format.proofs.RuleLaws.{bool-apart}
+use Rattle.bpg_format.proofs.WritingRefusals.{AtZero, R, rule, loop-check}
+use Rattle.bpg_entries.specs.declared.animation.Animation.{Animation}
+use Rattle.bpg_entries.specs.Animations.{animationAnswer}
+use Rattle.bpg_check.specs.Check.{statusOf, animationLoop, checkEntry}
+use Rattle.bpg_check.proofs.StatusLaws.{stops, goes-on}
+
+-- ---- the next entry
+
+module _ (es : List Entry) (n k : ℕ) where
+  -- whatever stands for an entry past the end
+  used-next : (d : Entry) → k < n → n ≤ length es → drop k (take n es) ≡ getD es k d ∷ drop (k + 1) (take n es)
+  used-next d h m =
+      drop-next (take n es) k d (omega (arith, length-take-le n es m))
+      ∙ ap (λ (e : Entry). e ∷ drop (k + 1) (take n es)) (getD-take n es k d h)
+
+  used-end : n ≤ k → drop k (take n es) ≡ []
+  used-end h = drop-of-length-le (take n es) {i = k} (omega (arith, length-take n es))
+
+-- ---- refusal 18
+
+module _ (source : List ℕ) (es : List Entry) (n k : ℕ) (most : n ≤ length es) (rest : entriesInSource source (drop k (take n es)) ≡ entriesInSource source (take n es)) (d : Entry) where
+  pub payload-outside : k < n → inSource source (getD es k d .payload) ≡ false → false ≡ entriesInSource source (take n es)
+  payload-outside h e = rw (used-next es n k d h most, e) at rest
+
+  pub payload-inside : k < n → inSource source (getD es k d .payload) ≡ true → entriesInSource source (drop (k + 1) (take n es)) ≡ entriesInSource source (take n es)
+  payload-inside h e = rw (used-next es n k d h most, e) at rest
+
+pub payloads-inside : (source : List ℕ) (es : List Entry) (n k : ℕ) → entriesInSource source (drop k (take n es)) ≡ entriesInSource source (take n es)
+    → n ≤ k → true ≡ entriesInSource source (take n es)
+payloads-inside source es n k rest h = rw (used-end es n k h) at rest
+
+both : (a b : Bool) → (a && b) ≡ true → (a ≡ true) × (b ≡ true)
+both true b e = (refl, e)
+both false b e = bool-apart e refl
+
+-- each entry of those that lie in the source
+at-inside : (source : List ℕ) (es : List Entry) (k : ℕ) (d : Entry) → entriesInSource source es ≡ true → k < length es → inSource source (getD es k d .payload) ≡ true
+at-inside source [] k d e h = absurd (omega arith)
+at-inside source (x ∷ es) zero d e h = both (inSource source (x .payload)) (entriesInSource source es) e .0
+at-inside source (x ∷ es) (suc k) d e h = at-inside source es k d (both (inSource source (x .payload)) (entriesInSource source es) e .1) (omega arith)
+
+pub used-inside : (source : List ℕ) (es : List Entry) (n k : ℕ) (d : Entry) → n ≤ length es → entriesInSource source (take n es) ≡ true → k < n
+    → inSource source (getD es k d .payload) ≡ true
+used-inside source es n k d m e h =
+    subst (λ (x : Entry). inSource source (x .payload) ≡ true) (getD-take n es k d h) (at-inside source (take n es) k d e (omega (arith, length-take-le n es m)))
+
+module _ (source : List ℕ) (r : Record) where
+  pub payloads-broken : entriesInSource source (usedEntries r) ≡ false → false ≡ rangesInSource source r
+  unfolding rangesInSource
+  payloads-broken a = rw a
+
+  pub data-decides : (t : Bool) → entriesInSource source (usedEntries r) ≡ true → t ≡ inSource source (r .«data») → t ≡ rangesInSource source r
+  unfolding rangesInSource
+  data-decides t a e = e ∙ rw a
+
+  pub payloads-held : rangesInSource source r ≡ true → entriesInSource source (usedEntries r) ≡ true
+  unfolding rangesInSource
+  payloads-held e = both (entriesInSource source (usedEntries r)) (inSource source (r .«data»)) e .0
+
+-- ---- unused entries
+
+module _ (e : Entry) where
+  pub tag-set : e .tag ≢ 0 → false ≡ isZero e
+  tag-set a = rw (ne-eqb _ _ a)
+
+  module _ (tag : e .tag ≡ 0) where
+    pub start-set : e .payload .start ≢ 0 → false ≡ isZero e
+    start-set a = rw (eq-eqb _ _ tag, ne-eqb _ _ a)
+
+    pub length-decides : e .payload .start ≡ 0 → eqb (e .payload .length) 0 ≡ isZero e
+    length-decides a = rw (eq-eqb _ _ tag, eq-eqb _ _ a)
+
+module _ (r : Record) (k : ℕ) (whole : length (r .entries) ≡ maxEntries) (rest : zeroEntries (drop k (r .entries)) ≡ unusedZero r) where
+  module _ (d : Entry) (h : k < maxEntries) where
+    pub unused-set : isZero (getD (r .entries) k d) ≡ false → false ≡ unusedZero r
+    unused-set e = rw (drop-next (r .entries) k d (omega arith), e) at rest
+
+    pub unused-clear : isZero (getD (r .entries) k d) ≡ true → zeroEntries (drop (k + 1) (r .entries)) ≡ unusedZero r
+    unused-clear e = rw (drop-next (r .entries) k d (omega arith), e) at rest
+
+  pub all-clear : maxEntries ≤ k → true ≡ unusedZero r
+  all-clear h = rw (drop-of-length-le (r .entries) {i = k} (omega arith)) at rest
+
+pub unused-begins : (r : Record) → zeroEntries (drop (r .«entry_count») (r .entries)) ≡ unusedZero r
+unfolding unusedZero
+unused-begins r = refl
+
+-- ---- an entry with tag 5
+
+module _ (source : List ℕ) (es : List Entry) (n k : ℕ)
+    (rest : hasLoop (map (extensionOf source) (drop k (take n es))) ≡ hasLoop (map (extensionOf source) (take n es))) where
+  module _ (d : Entry) (most : n ≤ length es) (h : k < n) where
+    pub control-found : getD es k d .tag ≡ 5 → true ≡ hasLoop (map (extensionOf source) (take n es))
+    control-found e = rw (used-next es n k d h most, eq-eqb _ _ e) at rest
+
+    pub control-further : getD es k d .tag ≢ 5 → hasLoop (map (extensionOf source) (drop (k + 1) (take n es))) ≡ hasLoop (map (extensionOf source) (take n es))
+    control-further e = rw (used-next es n k d h most, ne-eqb _ _ e) at rest
+
+  pub no-control : n ≤ k → false ≡ hasLoop (map (extensionOf source) (take n es))
+  no-control h = rw (used-end es n k h) at rest
+
+-- ---- the loop numbers
+
+module _ (p q : Loop) where
+  pub count-differs : p .count ≢ q .count → false ≡ sameLoop p q
+  count-differs a = rw (ne-eqb _ _ a)
+
+  module _ (count : p .count ≡ q .count) where
+    pub num-differs : p .periodNum ≢ q .periodNum → false ≡ sameLoop p q
+    num-differs a = rw (eq-eqb _ _ count, ne-eqb _ _ a)
+
+    pub den-decides : p .periodNum ≡ q .periodNum → eqb (p .periodDen) (q .periodDen) ≡ sameLoop p q
+    den-decides a = rw (eq-eqb _ _ count, eq-eqb _ _ a)
+
+-- a payload of tag 5, by what is read of it
+module _ (p : Loop) (l : List ℕ) where
+  abbrev Numbers : Type 0
+  Numbers = Outcome (ℕ × (ℕ × (ℕ × List ℕ)))
+
+  abbrev checked : Numbers → Outcome (Unit {0})
+  checked m = atZero m >>= λ x. guard (sameLoop p (loopFrom (ok x))) 19 0
+
+  as-checked : (m : Numbers) → loopNumbers .decode 0 0 l ≡ m → checkLoop p l ≡ checked m
+  unfolding checkLoop
+  as-checked m e = rw e
+
+  module _ (a : Animation) (e : a ≡ animationAnswer (loopNumbers .decode 0 0 l)) where
+    pub payload-refused : a .status ≢ 0 → a .status ≡ statusOf (checkLoop p l)
+    payload-refused n = by (loopNumbers .decode 0 0 l) refl e
+      where
+        by : (m : Numbers) → loopNumbers .decode 0 0 l ≡ m → a ≡ animationAnswer m → a .status ≡ statusOf (checkLoop p l)
+        by (ok x) d f = absurd (n (ap (λ (y : Animation). y .status) f))
+        by (error s o) d f = ap (λ (y : Animation). y .status) f ∙ sym (ap statusOf (as-checked (error s o) d))
+
+    module _ (z : a .status ≡ 0) where
+      -- the numbers were read, since the refusals are not 0
+      numbers : {P : Type 0} → ((x : ℕ × (ℕ × (ℕ × List ℕ))) → checkLoop p l ≡ guard (sameLoop p (loopFrom (ok x))) 19 0 → animationLoop a ≡ loopFrom (ok x) → P) → P
+      numbers {P} g = by (loopNumbers .decode 0 0 l) refl e
+        where
+          by : (m : Numbers) → loopNumbers .decode 0 0 l ≡ m → a ≡ animationAnswer m → P
+          by (ok x) d f = g x (as-checked (ok x) d) (ap animationLoop f)
+          by (error s o) d f = absurd (omega (arith, loop-check p l s 0 (as-checked (error s o) d) .0 .least, ap (λ (y : Animation). y .status) f))
+
+      decided : (x : ℕ × (ℕ × (ℕ × List ℕ))) → checkLoop p l ≡ guard (sameLoop p (loopFrom (ok x))) 19 0 → animationLoop a ≡ loopFrom (ok x) → (t : Bool)
+          → sameLoop p (animationLoop a) ≡ t → checkLoop p l ≡ guard t 19 0
+      decided x c q t s = c ∙ ap (λ (y : Loop). guard (sameLoop p y) 19 0) (sym q) ∙ ap (λ (b : Bool). guard b 19 0) s
+
+      pub loop-differs : sameLoop p (animationLoop a) ≡ false → 19 ≡ statusOf (checkLoop p l)
+      loop-differs s = numbers λ x c q. sym (ap statusOf (decided x c q false s))
+
+      pub loop-same : sameLoop p (animationLoop a) ≡ true → 0 ≡ statusOf (checkLoop p l)
+      loop-same s = numbers λ x c q. sym (ap statusOf (decided x c q true s))
+
+-- ---- one entry
+
+module _ (p : Loop) (seen : Bool) (e : Extension) where
+  entry-refuses : R (checkEntry p seen e)
+  unfolding checkEntry
+  entry-refuses =
+      rule (not (seen && isLoop e)) 13 _ (omega arith)
+      (refuses-select AtZero (isLoop e) (checkLoop p (e .payload)) (ok tt) (loop-check p (e .payload)) (refuses-ok AtZero tt))
+
+  pub other-tag : e .tag ≢ 5 → 0 ≡ statusOf (checkEntry p seen e)
+  unfolding checkEntry
+  other-tag n = rw (ne-eqb (e .tag) 5 n, select-false, and-false)
+
+  module _ (tag : e .tag ≡ 5) where
+    pub second-control : seen ≡ true → 13 ≡ statusOf (checkEntry p seen e)
+    unfolding checkEntry
+    second-control s = rw (eq-eqb _ _ tag, s)
+
+    pub first-control : (n : ℕ) → seen ≡ false → n ≡ statusOf (checkLoop p (e .payload)) → n ≡ statusOf (checkEntry p seen e)
+    unfolding checkEntry
+    first-control n s h = h ∙ rw (eq-eqb _ _ tag, s, select-true)
+
+-- ---- one after another
+
+one-more : (p : Loop) (seen : Bool) (e : Extension) (es : List Extension)
+    → checkEntries p seen (e ∷ es) ≡ (checkEntry p seen e >>= λ _. checkEntries p (seen || isLoop e) es)
+unfolding checkEntries checkEntry
+one-more p seen e es = simp bind-assoc
+
+module _ (p : Loop) (source : List ℕ) (es : List Entry) (n : ℕ) (seen : Bool) (k : ℕ)
+    (rest : statusOf (checkEntries p seen (map (extensionOf source) (drop k (take n es)))) ≡ statusOf (checkEntries p false (map (extensionOf source) (take n es)))) where
+  abbrev total : ℕ
+  total = statusOf (checkEntries p false (map (extensionOf source) (take n es)))
+
+  module _ (d : Entry) (most : n ≤ length es) (h : k < n) (s : ℕ) (is : s ≡ statusOf (checkEntry p seen (extensionOf source (getD es k d)))) where
+    abbrev new : Extension
+    new = extensionOf source (getD es k d)
+
+    abbrev left : Outcome (Unit {0})
+    left = checkEntries p (seen || isLoop new) (map (extensionOf source) (drop (k + 1) (take n es)))
+
+    step : statusOf (checkEntry p seen new >>= λ _. left) ≡ total
+    step = rw (used-next es n k d h most, one-more) at rest
+
+    pub entry-stops : s ≢ 0 → s ≡ total
+    entry-stops z = is ∙ stops (checkEntry p seen new) (λ _. left) (λ e. z (is ∙ e)) ∙ step
+
+    pub entry-goes-on : (t : Bool) → s ≡ 0 → t ≡ (seen || isLoop new) → statusOf (checkEntries p t (map (extensionOf source) (drop (k + 1) (take n es)))) ≡ total
+    entry-goes-on t z e = rw e (sym (goes-on (checkEntry p seen new) (entry-refuses p seen new) left (sym is ∙ z)) ∙ step)
+
+  pub entries-done : n ≤ k → 0 ≡ total
+  unfolding checkEntries
+  entries-done h = rw (used-end es n k h) at rest

@@ -1,0 +1,8 @@
+-- Laws of judging a record.
+pub mod StatusLaws
+pub mod AbsentLaws
+pub mod HeaderLaws
+pub mod EntryLaws
+pub mod ConsistentLaws
+pub mod ContentLaws
+pub mod Judgement

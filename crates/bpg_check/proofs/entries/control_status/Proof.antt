@@ -1,0 +1,81 @@
+-- `entries::control_status` meets its contract. Assumes nothing.
+use mathlib.Core.Path.{_≡_, sym, ap, _∙_}
+use borrow.Author.Tests.{not-true, not-false}
+use Rattle.bpg_check.proofs.EntryLaws.{payload-refused, loop-differs, loop-same}
+use mathlib.Core.List.{List}
+use Prim.Native.Nat.{ℕ, _+_, _-_}
+use native.Mathlib.Omega.{arith}
+use lib.ListN.{take, drop}
+use Rattle.bpg_format.specs.declared.record.Range.{Range}
+use Rattle.bpg_format.specs.FileCodec.{loopNumbers}
+use Rattle.bpg_format.specs.Records.{bytesIn}
+use Rattle.bpg_entries.specs.Animations.{animationAnswer}
+use borrow.Author.Needs.{needs}
+use Rattle.bpg_check.proofs.entries.control_status.Statement.{statement}
+use Rattle.bpg_check.proofs.entries.control_status.Tie as tie
+
+-- the payload was read
+module _ (c : tie.After-read) where
+  abbrev source : List ℕ
+  source = c .before .before .before .before .before .args .source .now
+
+  abbrev payload : Range
+  payload = c .before .before .before .before .before .args .payload
+
+  answer : c .read .result ≡ animationAnswer (loopNumbers .decode 0 0 (bytesIn source payload))
+  answer =
+      let e : payload .start + payload .length - payload .start ≡ payload .length = omega arith in
+      c .read .ensures ∙ ap (λ (n : ℕ). animationAnswer (loopNumbers .decode 0 0 (take n (drop (payload .start) source)))) e
+
+cast-start : tie.Need-cast-start
+cast-start c = search needs
+
+cast-end : tie.Need-cast-end
+cast-end c = search needs
+
+add-end : tie.Need-add-end
+add-end c = search needs
+
+sub-read : tie.Need-sub-read
+sub-read c = search needs
+
+part-read-start : tie.Need-part-read-start
+part-read-start c = search needs
+
+part-read-end : tie.Need-part-read-end
+part-read-end c = search needs
+
+read-requires : tie.Need-read-requires
+read-requires c κs = search needs
+
+returns : tie.Need-returns
+returns c = let r = c .before .before in payload-refused _ _ (r .read .result) (answer r) (c .if1 .taken)
+
+same-loop-requires : tie.Need-same-loop-requires
+same-loop-requires c κs = search needs
+
+returns-2 : tie.Need-returns-2
+returns-2 c =
+    let r = c .before .before .before .before in
+    loop-differs _ _ (r .read .result) (answer r) (c .before .before .if1 .left) (sym (c .before .same-loop .ensures) ∙ not-true _ (c .if2 .taken))
+
+returns-3 : tie.Need-returns-3
+returns-3 c =
+    let r = c .before .before .before .before in
+    loop-same _ _ (r .read .result) (answer r) (c .before .before .if1 .left) (sym (c .before .same-loop .ensures) ∙ not-false _ (c .if2 .left))
+
+pub control-status-spec : {M : Type 1} → statement M
+control-status-spec =
+    tie.close
+    (tie.spec
+    cast-start
+    cast-end
+    add-end
+    sub-read
+    part-read-start
+    part-read-end
+    read-requires
+    returns
+    same-loop-requires
+    returns-2
+    returns-3)

@@ -1,0 +1,88 @@
+-- `entries::status` meets its contract: what is left of the entries gives the whole status. Assumes nothing.
+use mathlib.Core.Path.{_≡_, refl, sym, _∙_}
+use mathlib.Core.Bool.{false}
+use mathlib.Core.List.{map}
+use Prim.Native.Nat.{_-_, _≤_}
+use native.Mathlib.Omega.{arith}
+use lib.ListN.{length, drop, length-map}
+use Rattle.bpg_format.specs.Records.{extensionOf, usedEntries}
+use Rattle.bpg_format.specs.Write.{checkEntries}
+use Rattle.bpg_format.proofs.record.Entry as entry-type
+use Rattle.bpg_check.specs.Check.{statusOf, recordLoop}
+use Rattle.bpg_check.proofs.EntryLaws.{used-inside, entry-stops, entry-goes-on, entries-done}
+use borrow.Author.Needs.{needs}
+use Rattle.bpg_check.proofs.entries.status.Statement.{statement}
+use Rattle.bpg_check.proofs.entries.status.Tie as tie
+
+abbrev Inv-loop : tie.InvT-loop
+Inv-loop source «record» count seen₀ k₀ seen k =
+    statusOf (checkEntries (recordLoop «record») seen (map (extensionOf source) (drop k (usedEntries «record»))))
+    ≡ statusOf (checkEntries (recordLoop «record») false (map (extensionOf source) (usedEntries «record»)))
+
+abbrev μ-loop : tie.MeasureT-loop
+μ-loop source «record» count seen₀ k₀ seen k = «record» .«entry_count» - k
+
+-- the array has sixteen entries
+sixteen : (c : tie.Start Inv-loop μ-loop) → length (c .args .t1 .entries) ≡ 16
+sixteen c = sym (length-map (c .args .t1 .entries) (entry-type.the-field .into)) ∙ c .good .0 .1 .1 .1 .1 .1 .1 .1 .1 .1 .1 .1 .1 .1 .1 .0 .1 .0 .1
+
+most : (c : tie.At-loop Inv-loop μ-loop) → c .before .before .args .t1 .«entry_count» ≤ length (c .before .before .args .t1 .entries)
+most c = omega (arith, c .before .before .pre .0, sixteen (c .before .before))
+
+cast-count : tie.Need-cast-count Inv-loop μ-loop
+cast-count c = search needs
+
+loop-holds : tie.Need-loop-holds Inv-loop μ-loop
+loop-holds c = refl
+
+mul-entry : tie.Need-mul-entry Inv-loop μ-loop
+mul-entry c = search needs
+
+element-copy-out-entry : tie.Need-element-copy-out-entry Inv-loop μ-loop
+element-copy-out-entry c = search needs
+
+entry-status-requires : tie.Need-entry-status-requires Inv-loop μ-loop
+entry-status-requires c κs =
+    let l = c .before .before in
+    used-inside _ _ _ _ _ (most l) (l .before .before .pre .1) (c .before .loop-test .taken)
+
+returns : tie.Need-returns Inv-loop μ-loop
+returns c =
+    let l = c .before .before .before .before in
+    entry-stops _ _ _ _ _ _ (l .loop .inv) _ (most l) (c .before .before .before .loop-test .taken) _ (c .before .entry-status .ensures) (c .if1 .taken)
+
+seen-after-requires : tie.Need-seen-after-requires Inv-loop μ-loop
+seen-after-requires c κs = search needs
+
+add-k : tie.Need-add-k Inv-loop μ-loop
+add-k c = search needs
+
+loop-less : tie.Need-loop-less Inv-loop μ-loop
+loop-less c = omega (arith, c .before .before .before .before .loop-test .taken)
+
+loop-again : tie.Need-loop-again Inv-loop μ-loop
+loop-again c =
+    let s = c .before .before in
+    let l = s .before .before .before in
+    entry-goes-on _ _ _ _ _ _ (l .loop .inv) _ (most l) (s .before .before .loop-test .taken) _ (s .entry-status .ensures) _ (c .before .if1 .left) (c .seen-after .ensures)
+
+returns-2 : tie.Need-returns-2 Inv-loop μ-loop
+returns-2 c = let l = c .before in entries-done _ _ _ _ _ _ (l .loop .inv) (c .loop-test .left)
+
+pub status-spec : {M : Type 1} → statement M
+status-spec =
+    tie.close
+    (tie.spec
+    Inv-loop
+    μ-loop
+    cast-count
+    loop-holds
+    mul-entry
+    element-copy-out-entry
+    entry-status-requires
+    returns
+    seen-after-requires
+    add-k
+    loop-less
+    loop-again
+    returns-2)

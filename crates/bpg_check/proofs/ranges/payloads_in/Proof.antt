@@ -1,0 +1,77 @@
+-- `ranges::payloads_in` meets its contract. Assumes nothing.
+use mathlib.Core.Path.{_≡_, refl, sym, _∙_}
+use Prim.Native.Nat.{_-_, _≤_}
+use native.Mathlib.Omega.{arith}
+use lib.ListN.{length, drop, length-map}
+use borrow.Author.Tests.{not-true, not-false}
+use Rattle.bpg_format.specs.Records.{usedEntries}
+use Rattle.bpg_format.specs.Write.{entriesInSource}
+use Rattle.bpg_format.proofs.record.Entry as entry-type
+use Rattle.bpg_check.proofs.EntryLaws.{payload-outside, payload-inside, payloads-inside}
+use borrow.Author.Needs.{needs}
+use Rattle.bpg_check.proofs.ranges.payloads_in.Statement.{statement}
+use Rattle.bpg_check.proofs.ranges.payloads_in.Tie as tie
+
+abbrev Inv-loop : tie.InvT-loop
+Inv-loop source «record» count k₀ k = entriesInSource source (drop k (usedEntries «record»)) ≡ entriesInSource source (usedEntries «record»)
+
+abbrev μ-loop : tie.MeasureT-loop
+μ-loop source «record» count k₀ k = «record» .«entry_count» - k
+
+-- the array has sixteen entries
+sixteen : (c : tie.Start Inv-loop μ-loop) → length (c .args .t1 .entries) ≡ 16
+sixteen c = sym (length-map (c .args .t1 .entries) (entry-type.the-field .into)) ∙ c .good .0 .1 .1 .1 .1 .1 .1 .1 .1 .1 .1 .1 .1 .1 .1 .0 .1 .0 .1
+
+most : (c : tie.At-loop Inv-loop μ-loop) → c .before .before .args .t1 .«entry_count» ≤ length (c .before .before .args .t1 .entries)
+most c = omega (arith, c .before .before .pre, sixteen (c .before .before))
+
+cast-count : tie.Need-cast-count Inv-loop μ-loop
+cast-count c = search needs
+
+loop-holds : tie.Need-loop-holds Inv-loop μ-loop
+loop-holds c = refl
+
+mul-entry : tie.Need-mul-entry Inv-loop μ-loop
+mul-entry c = search needs
+
+element-copy-out-entry : tie.Need-element-copy-out-entry Inv-loop μ-loop
+element-copy-out-entry c = search needs
+
+is-in-requires : tie.Need-is-in-requires Inv-loop μ-loop
+is-in-requires c κs = search needs
+
+returns : tie.Need-returns Inv-loop μ-loop
+returns c =
+    let l = c .before .before .before .before .before in
+    payload-outside _ _ _ _ (most l) (l .loop .inv) _ (c .before .before .before .before .loop-test .taken) (sym (c .before .is-in .ensures) ∙ not-true _ (c .if1 .taken))
+
+add-k : tie.Need-add-k Inv-loop μ-loop
+add-k c = search needs
+
+loop-less : tie.Need-loop-less Inv-loop μ-loop
+loop-less c = omega (arith, c .before .before .before .before .loop-test .taken)
+
+loop-again : tie.Need-loop-again Inv-loop μ-loop
+loop-again c =
+    let l = c .before .before .before .before .before in
+    payload-inside _ _ _ _ (most l) (l .loop .inv) _ (c .before .before .before .before .loop-test .taken) (sym (c .before .is-in .ensures) ∙ not-false _ (c .if1 .left))
+
+returns-2 : tie.Need-returns-2 Inv-loop μ-loop
+returns-2 c = let l = c .before in payloads-inside _ _ _ _ (l .loop .inv) (c .loop-test .left)
+
+pub payloads-in-spec : {M : Type 1} → statement M
+payloads-in-spec =
+    tie.close
+    (tie.spec
+    Inv-loop
+    μ-loop
+    cast-count
+    loop-holds
+    mul-entry
+    element-copy-out-entry
+    is-in-requires
+    returns
+    add-k
+    loop-less
+    loop-again
+    returns-2)

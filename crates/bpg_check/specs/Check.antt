@@ -1,0 +1,68 @@
+-- What judging a record answers (document 01, "Refusal numbers", writer): 11, 18, 19, then the rules in file order.
+use mathlib.Core.Bool.{Bool, not, _&&_, _||_}
+use mathlib.Core.List.{List}
+use Prim.Native.Nat.{ℕ}
+use lib.Dec.{leb}
+use lib.ListN.{getD}
+use Rattle.bpg_codec.specs.Select.{select}
+use Rattle.bpg_codec.specs.Outcome.{Outcome, ok, error, _>>=_, guard}
+use Rattle.bpg_numbers.specs.Ue7.{notZero}
+use Rattle.bpg_format.specs.Limits.{maxEntries}
+use Rattle.bpg_format.specs.declared.record.Record.{Record}
+use Rattle.bpg_format.specs.Zero.{zeroHeader}
+use Rattle.bpg_format.specs.Content.{Extension, Loop, Content, hasAlpha, bitDepth}
+use Rattle.bpg_format.specs.Rules.{isLoop, hasLoop}
+use Rattle.bpg_format.specs.FileCodec.{colorSpaceAllowed}
+use Rattle.bpg_format.specs.Records.{contentOf}
+use Rattle.bpg_format.specs.Write.{rangesInSource, unusedZero, consistent, checkLoop, checkHeader, checkContent}
+use Rattle.bpg_entries.specs.declared.animation.Animation.{Animation}
+
+-- the writer's refusals but for those of size
+unfoldable pub checkRecord : Record → List ℕ → Outcome (Unit {0})
+checkRecord r source =
+    guard (leb (r .«entry_count») maxEntries) 11 0 >>= λ _.
+    guard (rangesInSource source r) 18 0 >>= λ _.
+    guard (unusedZero r && consistent (contentOf r source)) 19 0 >>= λ _.
+    checkContent (contentOf r source)
+
+-- 0, or the error's status
+abbrev pub statusOf : {A : Type 0} → Outcome A → ℕ
+statusOf (ok a) = 0
+statusOf (error s o) = s
+
+abbrev pub checkStatus : Record → List ℕ → ℕ
+checkStatus r source = statusOf (checkRecord r source)
+
+-- ---- the parts that functions of their own judge
+
+abbrev pub recordLoop : Record → Loop
+recordLoop r = record { count = r .«loop_count»; periodNum = r .«frame_period_num»; periodDen = r .«frame_period_den» }
+
+abbrev pub animationLoop : Animation → Loop
+animationLoop a = record { count = a .«loop_count»; periodNum = a .«frame_period_num»; periodDen = a .«frame_period_den» }
+
+-- what `checkEntries` does with one entry
+unfoldable pub checkEntry : Loop → (seen : Bool) → Extension → Outcome (Unit {0})
+checkEntry p seen e =
+    guard (not (seen && isLoop e)) 13 0 >>= λ _.
+    select (isLoop e) (checkLoop p (e .payload)) (ok tt)
+
+-- `checkContent` before the entries
+unfoldable pub checkPicture : Content → Outcome (Unit {0})
+checkPicture c =
+    guard (leb (c .flags .pixelFormat) 5) 4 0 >>= λ _.
+    guard (leb (c .flags .bitDepthMinus8) 6) 5 0 >>= λ _.
+    guard (colorSpaceAllowed (c .flags)) 6 0 >>= λ _.
+    guard (notZero (c .width)) 9 0 >>= λ _.
+    guard (notZero (c .height)) 9 0
+
+-- the alpha header, where there is alpha
+unfoldable pub checkAlpha : (depth : ℕ) → Record → Outcome (Unit {0})
+checkAlpha depth r = select (r .«alpha1_flag» || r .«alpha2_flag») (checkHeader depth (getD (r .headers) 0 zeroHeader)) (ok tt)
+
+-- `checkContent` after the entries
+unfoldable pub checkHeaders : Content → Outcome (Unit {0})
+checkHeaders c =
+    guard (not (c .flags .animation) || hasLoop (c .extensions)) 14 0 >>= λ _.
+    select (hasAlpha (c .flags)) (checkHeader (bitDepth (c .flags)) (c .alphaHeader)) (ok tt) >>= λ _.
+    checkHeader (bitDepth (c .flags)) (c .colorHeader)

@@ -1,0 +1,2 @@
+-- What judging a record answers.
+pub mod Check

@@ -1,0 +1,138 @@
+// The entries of a record: those in use, and those that are not.
+use bpg_entries::animation;
+use bpg_entries::animation::Animation;
+use bpg_format::Entry;
+use bpg_format::MAX_ENTRIES;
+use bpg_format::Range;
+use bpg_format::Record;
+use bpg_numbers::BytePos;
+ghost use mathlib.Core.Path.{_≡_};
+ghost use mathlib.Core.Bool.{true, false, _||_};
+ghost use mathlib.Core.List.{List, map};
+ghost use Prim.Native.Nat.{ℕ, _≤_};
+ghost use lib.Dec.{eqb};
+ghost use Rattle.bpg_format.specs.Limits.{maxEntries};
+ghost use Rattle.bpg_format.specs.Rules.{hasLoop};
+ghost use Rattle.bpg_format.specs.Records.{bytesIn, extensionOf, usedEntries};
+ghost use Rattle.bpg_format.specs.Write.{inSource, entriesInSource, isZero, unusedZero, sameLoop, checkLoop, checkEntries};
+ghost use Rattle.bpg_check.specs.Check.{statusOf, recordLoop, animationLoop, checkEntry};
+
+fn is_zero(entry: Entry) -> bool
+    ensures { λ r. ⌜ r ≡ isZero entry ⌝ }
+{
+    if entry.tag != 0 {
+        return false;
+    }
+    if entry.payload.start != 0 {
+        return false;
+    }
+    entry.payload.length == 0
+}
+
+// Refusal 19: the entries that are not in use are zero.
+pub(crate) fn unused_zero(record: Record) -> bool
+    requires { ⌜ «record» .«entry_count» ≤ maxEntries ⌝ }
+    ensures { λ r. ⌜ r ≡ unusedZero «record» ⌝ }
+{
+    let mut k = record.entry_count as usize;
+    while k < MAX_ENTRIES {
+        let entry = record.entries[k];
+        if !is_zero(entry) {
+            return false;
+        }
+        k += 1;
+    }
+    true
+}
+
+// An entry with tag 5 is in use. No byte of a source matters to it.
+pub(crate) fn has_control(record: Record) -> bool
+    requires { ⌜ «record» .«entry_count» ≤ maxEntries ⌝ }
+    ensures { λ r. ⌜ ((source : List ℕ) → r ≡ hasLoop (map (extensionOf source) (usedEntries «record»))) ⌝ }
+{
+    let count = record.entry_count as usize;
+    let mut k: usize = 0;
+    while k < count {
+        let entry = record.entries[k];
+        if entry.tag == 5 {
+            return true;
+        }
+        k += 1;
+    }
+    false
+}
+
+// The record's loop numbers are these.
+pub fn same_loop(record: Record, animation: Animation) -> bool
+    ensures { λ r. ⌜ r ≡ sameLoop (recordLoop «record») (animationLoop animation) ⌝ }
+{
+    if record.loop_count != animation.loop_count {
+        return false;
+    }
+    if record.frame_period_num != animation.frame_period_num {
+        return false;
+    }
+    record.frame_period_den == animation.frame_period_den
+}
+
+// The payload of tag 5: its own refusals, then 19 if the record's loop numbers are others.
+fn control_status(record: Record, payload: Range, source: &[u8]) -> u8
+    requires { ⌜ inSource (now source) payload ≡ true ⌝ }
+    ensures { λ r. ⌜ r ≡ statusOf (checkLoop (recordLoop «record») (bytesIn (now (source .entry)) payload)) ⌝ }
+{
+    let start = payload.start as usize;
+    let end = start + payload.length as usize;
+    let animation = animation::read(&source[start..end], BytePos(0));
+    if animation.status != 0 {
+        return animation.status;
+    }
+    if !same_loop(record, animation) {
+        return 19;
+    }
+    0
+}
+
+// One entry; `seen`: an entry with tag 5 stands before it.
+fn entry_status(record: Record, entry: Entry, seen: bool, source: &[u8]) -> u8
+    requires { ⌜ inSource (now source) (entry .payload) ≡ true ⌝ }
+    ensures { λ r. ⌜ r ≡ statusOf (checkEntry (recordLoop «record») seen (extensionOf (now (source .entry)) entry)) ⌝ }
+{
+    if entry.tag != 5 {
+        return 0;
+    }
+    if seen {
+        return 13;
+    }
+    let payload = entry.payload;
+    control_status(record, payload, source)
+}
+
+fn seen_after(seen: bool, entry: Entry) -> bool
+    ensures { λ r. ⌜ r ≡ (seen || eqb (entry .tag) 5) ⌝ }
+{
+    if seen {
+        return true;
+    }
+    entry.tag == 5
+}
+
+// The entries in use, one after another.
+pub(crate) fn status(record: Record, source: &[u8]) -> u8
+    requires { ⌜ «record» .«entry_count» ≤ maxEntries ⌝ }
+    requires { ⌜ entriesInSource (now source) (usedEntries «record») ≡ true ⌝ }
+    ensures { λ r. ⌜ r ≡ statusOf (checkEntries (recordLoop «record») false (map (extensionOf (now (source .entry))) (usedEntries «record»))) ⌝ }
+{
+    let count = record.entry_count as usize;
+    let mut seen = false;
+    let mut k: usize = 0;
+    while k < count {
+        let entry = record.entries[k];
+        let number = entry_status(record, entry, seen, source);
+        if number != 0 {
+            return number;
+        }
+        seen = seen_after(seen, entry);
+        k += 1;
+    }
+    0
+}

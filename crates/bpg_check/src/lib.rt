@@ -1,0 +1,8 @@
+// Judging a record before it is written: its refusal number, or 0.
+mod absent;
+mod consistent;
+mod content;
+mod entries;
+mod header;
+pub mod judge;
+mod ranges;
