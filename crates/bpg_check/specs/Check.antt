@@ -56,10 +56,11 @@ checkPicture c =
     guard (notZero (c .width)) 9 0 >>= λ _.
     guard (notZero (c .height)) 9 0
 
--- and after them
+-- the alpha header, where there is alpha
 unfoldable pub checkAlpha : (depth : ℕ) → Record → Outcome (Unit {0})
 checkAlpha depth r = select (r .«alpha1_flag» || r .«alpha2_flag») (checkHeader depth (getD (r .headers) 0 zeroHeader)) (ok tt)
 
+-- `checkContent` after the entries
 unfoldable pub checkHeaders : Content → Outcome (Unit {0})
 checkHeaders c =
     guard (not (c .flags .animation) || hasLoop (c .extensions)) 14 0 >>= λ _.

@@ -10,7 +10,8 @@ ghost use Rattle.bpg_format.specs.Write.{inSource, entriesInSource, rangesInSou
 fn is_in(range: Range, source: &[u8]) -> bool
     ensures { λ r. ⌜ r ≡ inSource (now (source .entry)) range ⌝ }
 {
-    range.start as usize + range.length as usize <= source.len()
+    let end = range.start as usize + range.length as usize;
+    end <= source.len()
 }
 
 // The payloads of the entries in use.

@@ -13,7 +13,8 @@ use Rattle.bpg_check.proofs.entries.has_control.Statement.{statement}
 use Rattle.bpg_check.proofs.entries.has_control.Tie as tie
 
 abbrev Inv-loop : tie.InvT-loop
-Inv-loop «record» count k₀ k = (source : List ℕ) → hasLoop (map (extensionOf source) (drop k (usedEntries «record»))) ≡ hasLoop (map (extensionOf source) (usedEntries «record»))
+Inv-loop «record» count k₀ k =
+    (source : List ℕ) → hasLoop (map (extensionOf source) (drop k (usedEntries «record»))) ≡ hasLoop (map (extensionOf source) (usedEntries «record»))
 
 abbrev μ-loop : tie.MeasureT-loop
 μ-loop «record» count k₀ k = «record» .«entry_count» - k

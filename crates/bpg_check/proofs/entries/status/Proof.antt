@@ -1,4 +1,4 @@
--- `entries::status` meets its contract. Assumes nothing.
+-- `entries::status` meets its contract: what is left of the entries gives the whole status. Assumes nothing.
 use mathlib.Core.Path.{_≡_, refl, sym, _∙_}
 use mathlib.Core.Bool.{false}
 use mathlib.Core.List.{map}
@@ -15,7 +15,9 @@ use Rattle.bpg_check.proofs.entries.status.Statement.{statement}
 use Rattle.bpg_check.proofs.entries.status.Tie as tie
 
 abbrev Inv-loop : tie.InvT-loop
-Inv-loop source «record» count seen₀ k₀ seen k = statusOf (checkEntries (recordLoop «record») seen (map (extensionOf source) (drop k (usedEntries «record»)))) ≡ statusOf (checkEntries (recordLoop «record») false (map (extensionOf source) (usedEntries «record»)))
+Inv-loop source «record» count seen₀ k₀ seen k =
+    statusOf (checkEntries (recordLoop «record») seen (map (extensionOf source) (drop k (usedEntries «record»))))
+    ≡ statusOf (checkEntries (recordLoop «record») false (map (extensionOf source) (usedEntries «record»)))
 
 abbrev μ-loop : tie.MeasureT-loop
 μ-loop source «record» count seen₀ k₀ seen k = «record» .«entry_count» - k
