@@ -41,13 +41,10 @@ fn extension_zero(h: Header) -> bool
     h.sps_extension_7bits == 0
 }
 
-// The nine flags, without the range flag.
-fn range_flags_zero(h: Header) -> bool
-    ensures { λ r. ⌜ r ≡ (h .«sps_range_extension_flag» || allZero (h .«range_flags»)) ⌝ }
+// None of the nine flags is set.
+pub fn no_range_flag(h: Header) -> bool
+    ensures { λ r. ⌜ r ≡ allZero (h .«range_flags») ⌝ }
 {
-    if h.sps_range_extension_flag {
-        return true;
-    }
     let mut k: usize = 0;
     while k < 9 {
         if h.range_flags[k] {
@@ -56,6 +53,16 @@ fn range_flags_zero(h: Header) -> bool
         k += 1;
     }
     true
+}
+
+// The nine flags, without the range flag.
+fn range_flags_zero(h: Header) -> bool
+    ensures { λ r. ⌜ r ≡ (h .«sps_range_extension_flag» || allZero (h .«range_flags»)) ⌝ }
+{
+    if h.sps_range_extension_flag {
+        return true;
+    }
+    no_range_flag(h)
 }
 
 pub fn absent_zero(h: Header) -> bool

@@ -1,5 +1,5 @@
 // Judging a record before it is written: its refusal number, or 0.
-mod absent;
+pub mod absent;
 mod consistent;
 mod content;
 mod entries;

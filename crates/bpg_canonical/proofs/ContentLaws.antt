@@ -1,0 +1,185 @@
+-- The canonical record of an accepted file, over that file, has the canonical content. Assumes nothing.
+use mathlib.Core.Path.{_≡_, refl, sym, ap, ap₂, _∙_, subst}
+use mathlib.Core.Bool.{Bool, true, false, not}
+use mathlib.Core.List.{List, [], _∷_, _++_, map, append-assoc, append-nil}
+use Prim.Native.Nat.{ℕ, zero, suc, _+_, _≤_}
+use native.Mathlib.Omega.{arith}
+use lib.Dec.{eqb}
+use lib.ListN.{length, take, drop, length-append}
+use lib.Seq.{take-take, take-append-seam}
+use borrow.Author.Tests.{ne-eqb}
+use Rattle.bpg_codec.specs.Lawful.{All}
+use Rattle.bpg_codec.proofs.Select.{select-true, select-false}
+use Rattle.bpg_numbers.specs.Ue7.{ue7Bytes}
+use Rattle.bpg_format.specs.declared.record.Entry.{Entry}
+use Rattle.bpg_format.specs.Zero.{range, zeroEntry}
+use Rattle.bpg_format.specs.Content.{isEmpty, Extension, Loop, Content}
+use Rattle.bpg_format.specs.Rules.{isLoop, ExtensionRules, Rules}
+use Rattle.bpg_format.specs.Syntax.{fileOf}
+use Rattle.bpg_format.specs.Records.{bytesIn, extensionOf, usedEntries, recordOf, contentOf}
+use Rattle.bpg_format.specs.Write.{Writable}
+use Rattle.bpg_format.specs.Pictures.{pictureEntry, loopBytes, entryWith, pictureOf, withChoices, canonicalContent, canonicalBytes}
+use Rattle.bpg_format.proofs.RecordLaws.{content-record}
+use Rattle.bpg_format.proofs.Writing.{record-writable}
+use Rattle.bpg_format.proofs.CanonicalLaws.{canonical-rules}
+use Rattle.bpg_writer.specs.Parts.{RangeInside}
+use Rattle.bpg_writer.proofs.PartLaws.{range-length}
+use Rattle.bpg_canonical.specs.Records.{loopSize, canonicalEntry, canonicalHeader, canonicalRecord}
+
+-- ---- an entry
+
+module _ (file : List ℕ) (p : Loop) where
+  abbrev size : ℕ
+  size = length (ue7Bytes (p .count)) + length (ue7Bytes (p .periodNum)) + length (ue7Bytes (p .periodDen))
+
+  loop-size : length (loopBytes p []) ≡ size
+  loop-size =
+      let a = ue7Bytes (p .count) in
+      let b = ue7Bytes (p .periodNum) in
+      let d = ue7Bytes (p .periodDen) in
+      omega (arith, length-append a (b ++ (d ++ [])), length-append b (d ++ []), length-append d [])
+
+  -- a tag 5 payload begins with the three numbers
+  module _ (l dummy : List ℕ) (is : l ≡ ue7Bytes (p .count) ++ (ue7Bytes (p .periodNum) ++ (ue7Bytes (p .periodDen) ++ dummy))) where
+    in-two : l ≡ loopBytes p [] ++ dummy
+    in-two = is ∙ simp (append-assoc, append-nil)
+
+    first-part : take size l ≡ loopBytes p []
+    first-part = ap₂ (λ (n : ℕ) (m : List ℕ). take n m) (sym loop-size) in-two ∙ take-append-seam (loopBytes p []) dummy
+
+    size-most : size ≤ length l
+    size-most = omega (arith, ap length in-two, length-append (loopBytes p []) dummy, loop-size)
+
+  module _ (e : Entry) (rules : ExtensionRules p (extensionOf file e)) (inside : RangeInside (length file) e) where
+    shorter : isLoop (extensionOf file e) ≡ true → size ≤ e .payload .length
+    shorter t =
+        let d = rules .loop t in
+        omega (arith, size-most (bytesIn file (e .payload)) (d .0) (d .1 .is), range-length file (e .payload) inside)
+
+    loop-payload : isLoop (extensionOf file e) ≡ true → bytesIn file (range (e .payload .start) size) ≡ loopBytes p []
+    loop-payload t =
+        let d = rules .loop t in
+        sym (take-take size (e .payload .length) (drop (e .payload .start) file) (shorter t)) ∙ first-part (bytesIn file (e .payload)) (d .0) (d .1 .is)
+
+    entry-content : extensionOf file (canonicalEntry size e) ≡ entryWith p [] (pictureEntry (extensionOf file e))
+    entry-content = by (eqb (e .tag) 5) refl
+      where
+        by : (t : Bool) → eqb (e .tag) 5 ≡ t → extensionOf file (canonicalEntry size e) ≡ entryWith p [] (pictureEntry (extensionOf file e))
+        by true w =
+            ap (extensionOf file) (select-true (record { tag = e .tag; payload = range (e .payload .start) size }) e w)
+            ∙ ap (λ (x : List ℕ). record { tag = e .tag; payload = x }) (loop-payload w ∙ sym (select-true (loopBytes p []) (pictureEntry (extensionOf file e) .payload) w))
+        by false w =
+            ap (extensionOf file) (select-false (record { tag = e .tag; payload = range (e .payload .start) size }) e w)
+            ∙ ap (λ (x : List ℕ). record { tag = e .tag; payload = x })
+            (sym (select-false (loopBytes p []) (pictureEntry (extensionOf file e) .payload) w ∙ select-false [] (bytesIn file (e .payload)) w))
+
+    entry-inside : RangeInside (length file) (canonicalEntry size e)
+    entry-inside = by (eqb (e .tag) 5) refl
+      where
+        by : (t : Bool) → eqb (e .tag) 5 ≡ t → RangeInside (length file) (canonicalEntry size e)
+        by true w =
+            subst (RangeInside (length file)) (sym (select-true (record { tag = e .tag; payload = range (e .payload .start) size }) e w)) (omega (arith, inside, shorter w))
+        by false w = subst (RangeInside (length file)) (sym (select-false (record { tag = e .tag; payload = range (e .payload .start) size }) e w)) inside
+
+  -- ---- all entries
+
+  pub entries-content : (es : List Entry) → All (ExtensionRules p) (map (extensionOf file) es) → All (RangeInside (length file)) es
+      → map (extensionOf file) (map (canonicalEntry size) es) ≡ map (entryWith p []) (map pictureEntry (map (extensionOf file) es))
+  entries-content [] r i = refl
+  entries-content (e ∷ es) r i = ap₂ (λ (x : Extension) (l : List Extension). x ∷ l) (entry-content e (r .0) (i .0)) (entries-content es (r .1) (i .1))
+
+  pub entries-inside : (es : List Entry) → All (ExtensionRules p) (map (extensionOf file) es) → All (RangeInside (length file)) es
+      → All (RangeInside (length file)) (map (canonicalEntry size) es)
+  entries-inside [] r i = tt
+  entries-inside (e ∷ es) r i = (entry-inside e (r .0) (i .0), entries-inside es (r .1) (i .1))
+
+-- an unused entry stays as it is
+pub unused-kept : (n : ℕ) (es : List Entry) → All (λ (e : Entry). e ≡ zeroEntry) es → All (λ (e : Entry). e ≡ zeroEntry) (map (canonicalEntry n) es)
+unused-kept n [] a = tt
+unused-kept n (e ∷ es) a = (ap (canonicalEntry n) (a .0) ∙ select-false (record { tag = 0; payload = range 0 n }) zeroEntry refl, unused-kept n es (a .1))
+
+-- ---- the content
+
+take-map : {A B : Type 0} (g : A → B) (n : ℕ) (l : List A) → take n (map g l) ≡ map g (take n l)
+take-map g zero l = refl
+take-map g (suc n) [] = refl
+take-map g (suc n) (x ∷ l) = ap (λ (m : List _). g x ∷ m) (take-map g n l)
+
+drop-map : {A B : Type 0} (g : A → B) (n : ℕ) (l : List A) → drop n (map g l) ≡ map g (drop n l)
+drop-map g zero l = refl
+drop-map g (suc n) [] = refl
+drop-map g (suc n) (x ∷ l) = drop-map g n l
+
+no-entry : (es : List Extension) → not (eqb (length es) 0) ≡ not (isEmpty (map pictureEntry es))
+no-entry [] = refl
+no-entry (e ∷ es) = ap not (ne-eqb (length (e ∷ es)) 0 (λ k. omega arith))
+
+module _ (c : Content) (r : Rules c) where
+  abbrev file : List ℕ
+  file = fileOf c
+
+  abbrev used : List Entry
+  used = usedEntries (recordOf c)
+
+  original : Writable (length file) (recordOf c) file
+  original = record-writable c r (length file) (omega arith)
+
+  extensions-are : map (extensionOf file) used ≡ c .extensions
+  unfolding contentOf
+  extensions-are = ap (λ (d : Content). d .extensions) (content-record c r)
+
+  data-is : bytesIn file (recordOf c .«data») ≡ c .hevcData
+  unfolding contentOf
+  data-is = ap (λ (d : Content). d .hevcData) (content-record c r)
+
+  known : All (ExtensionRules (c .loop)) (map (extensionOf file) used)
+  known = subst (All (ExtensionRules (c .loop))) (sym extensions-are) (r .entries)
+
+  extensions-canonical : map (extensionOf file) (usedEntries (canonicalRecord (recordOf c))) ≡ map (entryWith (c .loop) []) (map pictureEntry (c .extensions))
+  unfolding recordOf
+  extensions-canonical =
+      ap (map (extensionOf file)) (take-map (canonicalEntry (loopSize (recordOf c))) (length (c .extensions)) (recordOf c .entries))
+      ∙ entries-content file (c .loop) used known (original .payloads)
+      ∙ ap (λ (l : List Extension). map (entryWith (c .loop) []) (map pictureEntry l)) extensions-are
+
+  pub canonical-content : contentOf (canonicalRecord (recordOf c)) file ≡ canonicalContent c
+  unfolding contentOf canonicalContent withChoices pictureOf recordOf
+  canonical-content =
+      λ z.
+      record {
+        flags =
+            record {
+              pixelFormat = c .flags .pixelFormat;
+              alpha1 = c .flags .alpha1;
+              bitDepthMinus8 = c .flags .bitDepthMinus8;
+              colorSpace = c .flags .colorSpace;
+              extensionPresent = no-entry (c .extensions) z;
+              alpha2 = c .flags .alpha2;
+              limitedRange = c .flags .limitedRange;
+              animation = c .flags .animation;
+            };
+        width = c .width;
+        height = c .height;
+        explicitLength = false;
+        extensions = extensions-canonical z;
+        loop = c .loop;
+        alphaHeader = canonicalHeader (c .alphaHeader);
+        colorHeader = canonicalHeader (c .colorHeader);
+        hevcData = data-is z;
+      }
+
+  -- it is written where the buffer holds its file
+  pub canonical-writable : Writable (length (canonicalBytes c)) (canonicalRecord (recordOf c)) file
+  unfolding recordOf canonicalBytes
+  canonical-writable =
+      let g = canonicalEntry (loopSize (recordOf c)) in
+      record {
+        few = r .entry-limit;
+        payloads = subst (All (RangeInside (length file))) (sym (take-map g (length (c .extensions)) (recordOf c .entries))) (entries-inside file (c .loop) used known (original .payloads));
+        data-range = original .data-range;
+        unused =
+            subst (All (λ (e : Entry). e ≡ zeroEntry)) (sym (drop-map g (length (c .extensions)) (recordOf c .entries)))
+            (unused-kept (loopSize (recordOf c)) (drop (length (c .extensions)) (recordOf c .entries)) (original .unused));
+        rules = subst Rules (sym canonical-content) (canonical-rules c r);
+        holds = subst (λ (d : Content). length (fileOf d) ≤ length (fileOf (canonicalContent c))) (sym canonical-content) (omega arith);
+      }

@@ -1,0 +1,4 @@
+-- Laws of the canonical record.
+pub mod RecordLaws
+pub mod ContentLaws
+pub mod FileLaws

@@ -1,0 +1,57 @@
+-- `file::canonicalize` meets its contract. Assumes nothing.
+use mathlib.Core.Path.{ap, _∙_}
+use native.Mathlib.Omega.{arith}
+use Rattle.bpg_codec.proofs.Tokens.{all-bytes}
+use Rattle.bpg_format.specs.declared.record.Record.{Record}
+use Rattle.bpg_format.specs.Write.{writeFile, writeBuffer}
+use Rattle.bpg_canonical.proofs.FileLaws.{refused, canonicalized}
+use borrow.Author.Needs.{needs}
+use Rattle.bpg_canonical.proofs.file.canonicalize.Statement.{statement}
+use Rattle.bpg_canonical.proofs.file.canonicalize.Tie as tie
+
+read-requires : tie.Need-read-requires
+read-requires c κs = search needs
+
+written-refused-requires : tie.Need-written-refused-requires
+written-refused-requires c κs = search needs
+
+returns : tie.Need-returns
+returns c =
+    let r = c .before .before .before in
+    let s = r .before .before .before in
+    let a = refused (s .args .file .now) (s .args .out .now) (r .read .result) (r .read .ensures) (c .before .if1 .taken) in
+    (c .written-refused .ensures ∙ a .0, a .1)
+
+canonical-requires : tie.Need-canonical-requires
+canonical-requires c κs = search needs
+
+write-requires : tie.Need-write-requires
+write-requires c κs = search needs
+
+same-length : tie.Need-same-length
+same-length c = search needs
+
+returns-2 : tie.Need-returns-2
+returns-2 c =
+    let w = c .before .before in
+    let k = w .before .before in
+    let e = k .before .before in
+    let r = e .before .before in
+    let s = r .before .before .before in
+    let file = s .args .file .now in
+    let e1 = ap (λ (x : Record). writeFile x file (s .args .out .now)) (k .canonical .ensures) in
+    let e2 = ap (λ (x : Record). writeBuffer x file (s .args .out .now)) (k .canonical .ensures) in
+    canonicalized file (s .args .out .now) (r .read .result) (r .read .ensures) (all-bytes file (λ i. omega (arith, r .before .before .shared-slice-known .given i))) (e .if1 .left) _ _
+    (w .write .ensures .0 ∙ e1) (w .write .ensures .1 ∙ e2)
+
+pub canonicalize-spec : {M : Type 1} → statement M
+canonicalize-spec =
+    tie.close
+    (tie.spec
+    read-requires
+    written-refused-requires
+    returns
+    canonical-requires
+    write-requires
+    same-length
+    returns-2)

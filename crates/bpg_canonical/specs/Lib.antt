@@ -1,0 +1,2 @@
+-- The canonical record.
+pub mod Records

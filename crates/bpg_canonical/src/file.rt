@@ -1,0 +1,20 @@
+// Canonicalizing a file: read, a record with the canonical choices, written over the file's own bytes.
+use crate::record;
+use bpg_format::Written;
+use bpg_format::written_refused;
+ghost use mathlib.Core.Path.{_≡_};
+ghost use Rattle.bpg_format.specs.Pictures.{canonicalFile, canonicalBuffer};
+
+// Writes the canonical form of a file from the start of `out`; a refusal leaves `out` as it is.
+pub fn canonicalize(file: &[u8], out: &mut [u8]) -> Written
+    ensures { λ r. ⌜ r ≡ canonicalFile (now (file .entry)) (now (out .entry)) ⌝ }
+    ensures { λ r. ⌜ now (out .exit) ≡ canonicalBuffer (now (file .entry)) (now (out .entry)) ⌝ }
+{
+    let reading = bpg_reader::read(file);
+    if reading.status != 0 {
+        return written_refused(reading.status, reading.offset);
+    }
+    let found = reading.record;
+    let canonical = record::canonical(found);
+    bpg_writer::write(canonical, file, out)
+}

@@ -1,0 +1,5 @@
+// The canonical form of a BPG file (document 01: tidying): one form for each picture.
+mod file;
+mod record;
+
+pub use file::canonicalize;
