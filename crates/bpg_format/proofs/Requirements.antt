@@ -1,13 +1,15 @@
 -- The requirements hold. Assumes nothing.
 use mathlib.Core.Path.{_≡_, refl, sym, ap, _∙_, subst}
+use mathlib.Core.Bool.{Bool, true, false}
 use mathlib.Core.List.{List, []}
 use mathlib.Core.Logic.{_↔_, _≢_}
 use Prim.Native.Nat.{ℕ, _≤_}
 use native.Mathlib.Omega.{arith}
+use lib.Dec.{leb}
 use lib.ListN.{length, take, drop, length-take, List·getD-eq-default}
 use lib.Seq.{take-append-seam, drop-append-seam}
 use borrow.Author.Tests.{le-leb}
-use Rattle.bpg_codec.specs.Outcome.{Outcome, ok, error}
+use Rattle.bpg_codec.specs.Outcome.{Outcome, ok, error, _>>=_, guard}
 use Rattle.bpg_codec.specs.Lawful.{All, Byte}
 use Rattle.bpg_codec.proofs.Refusals.{Refuses}
 use Rattle.bpg_format.specs.declared.record.Entry.{Entry}
@@ -17,12 +19,14 @@ use Rattle.bpg_format.specs.Zero.{zeroEntry, refusedWritten}
 use Rattle.bpg_format.specs.Content.{Content}
 use Rattle.bpg_format.specs.Syntax.{fileOf}
 use Rattle.bpg_format.specs.Rules.{Rules, Accepted}
-use Rattle.bpg_format.specs.Records.{recordOf, usedEntries, contentOf, readFile, bytesIn}
+use Rattle.bpg_format.specs.Records.{recordOf, usedEntries, contentOf, answerOf, readFile, bytesIn}
+use Rattle.bpg_format.specs.Read.{readContent, ReadingStatus}
 use Rattle.bpg_format.specs.Parts.{entryOf, payloadOf, dataOf, rangesOf}
 use Rattle.bpg_format.specs.Write.{writeOutcome, writtenAnswer, writtenBuffer, writeFile, writeBuffer, WritingStatus, Typed, Writable}
 use Rattle.bpg_format.specs.Pictures.{Picture, pictureOf, canonicalContent, canonicalBytes, Shows, SamePicture, canonicalOutcome, canonicalFile, canonicalBuffer}
 use Rattle.bpg_format.specs.Requirements.{Refusals, Reading, Writing, Ranges, count, bytes, OneFormPerPicture}
 use Rattle.bpg_format.proofs.Reading.{reads, answer, accepted-status, status-accepted, refusal, statuses, content-unique}
+use Rattle.bpg_format.proofs.ReadingRefusals.{content-refuses}
 use Rattle.bpg_format.proofs.RecordLaws.{content-record}
 use Rattle.bpg_format.proofs.RangeLaws.{ranges-in-order, ranges-whole, data-last, one-range}
 use Rattle.bpg_format.proofs.WritingRefusals.{write-refuses}
@@ -56,6 +60,37 @@ canonical-refusal : (f out : List ℕ) → canonicalFile f out .status ≢ 0
 unfolding canonicalFile canonicalBuffer
 canonical-refusal f out n = refused-answer (canonicalOutcome (length out) f) out n
 
+-- canonicalizing by what the file is read as
+abbrev fitted : List ℕ → Outcome Content → Outcome (List ℕ)
+fitted out o = o >>= λ c. guard (leb (length (canonicalBytes c)) (length out)) 20 0 >>= λ _. ok (canonicalBytes c)
+
+canonical-number : (f out : List ℕ) → canonicalFile f out .status ≢ 0 → canonicalFile f out .status ≢ 20
+    → (canonicalFile f out .status ≡ readFile f .status) × (canonicalFile f out .offset ≡ readFile f .offset) × ReadingStatus (canonicalFile f out .status)
+unfolding canonicalFile canonicalOutcome readFile
+canonical-number f out n m = by (readContent f) refl n m
+  where
+    sized : (c : Content) (t : Bool) → writtenAnswer (guard t 20 0 >>= λ _. ok (canonicalBytes c)) .status ≢ 0
+        → writtenAnswer (guard t 20 0 >>= λ _. ok (canonicalBytes c)) .status ≢ 20 → ⊥
+    sized c true n m = n refl
+    sized c false n m = m refl
+
+    by : (o : Outcome Content) → readContent f ≡ o → writtenAnswer (fitted out o) .status ≢ 0 → writtenAnswer (fitted out o) .status ≢ 20
+        → (writtenAnswer (fitted out o) .status ≡ answerOf o .status) × (writtenAnswer (fitted out o) .offset ≡ answerOf o .offset) × ReadingStatus (writtenAnswer (fitted out o) .status)
+    by (ok c) e n m = absurd (sized c (leb (length (canonicalBytes c)) (length out)) n m)
+    by (error s o) e n m = (refl, refl, content-refuses f s o e)
+
+canonical-small : (f out : List ℕ) → canonicalFile f out .status ≡ 20 → canonicalFile f out .offset ≡ 0
+unfolding canonicalFile canonicalOutcome
+canonical-small f out h = by (readContent f) refl h
+  where
+    sized : (c : Content) (t : Bool) → writtenAnswer (guard t 20 0 >>= λ _. ok (canonicalBytes c)) .offset ≡ 0
+    sized c true = refl
+    sized c false = refl
+
+    by : (o : Outcome Content) → readContent f ≡ o → writtenAnswer (fitted out o) .status ≡ 20 → writtenAnswer (fitted out o) .offset ≡ 0
+    by (ok c) e k = sized c (leb (length (canonicalBytes c)) (length out))
+    by (error s o) e k = absurd (omega (arith, k, content-refuses f s o e .1))
+
 no-payload : (f : List ℕ) (k : ℕ) → readFile f .«record» .«entry_count» ≤ k → payloadOf f k ≡ []
 unfolding payloadOf entryOf
 no-payload f k h =
@@ -75,6 +110,8 @@ refusals =
       reading-number = statuses;
       writing = written-refusal;
       canonicalizing = canonical-refusal;
+      canonicalizing-number = canonical-number;
+      canonicalizing-small = canonical-small;
       past-last = no-payload;
       refused-parts = no-parts;
     }

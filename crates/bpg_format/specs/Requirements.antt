@@ -31,6 +31,10 @@ pub record Refusals : Type 0 where
       → (writeFile r source out ≡ refusedWritten (writeFile r source out .status) 0) × WritingStatus (writeFile r source out .status) × (writeBuffer r source out ≡ out)
   pub canonicalizing : (f out : List ℕ) → canonicalFile f out .status ≢ 0
       → (canonicalFile f out ≡ refusedWritten (canonicalFile f out .status) (canonicalFile f out .offset)) × (canonicalBuffer f out ≡ out)
+  -- the reader's numbers, with the reader's places; or 20, at 0
+  pub canonicalizing-number : (f out : List ℕ) → canonicalFile f out .status ≢ 0 → canonicalFile f out .status ≢ 20
+      → (canonicalFile f out .status ≡ readFile f .status) × (canonicalFile f out .offset ≡ readFile f .offset) × ReadingStatus (canonicalFile f out .status)
+  pub canonicalizing-small : (f out : List ℕ) → canonicalFile f out .status ≡ 20 → canonicalFile f out .offset ≡ 0
   -- "an index past the last entry gives an empty part"; so does a refused file
   pub past-last : (f : List ℕ) (k : ℕ) → readFile f .«record» .«entry_count» ≤ k → payloadOf f k ≡ []
   pub refused-parts : (f : List ℕ) (k : ℕ) → readFile f .status ≢ 0 → (payloadOf f k ≡ []) × (dataOf f ≡ [])
