@@ -1,21 +1,18 @@
--- What is known of a head that was read: where it ends, how large its numbers are, and where they stand. Assumes nothing.
+-- What is known of a head that was read: that it ends within its file, and that its bit depth is one of document 01's. Assumes nothing.
 use mathlib.Core.Path.{_≡_, sym, ap, subst}
 use mathlib.Core.Bool.{Bool, true, false}
 use mathlib.Core.List.{List}
-use Prim.Native.Nat.{ℕ, _+_, _-_, _/_, _%_, _^_, _≤_, _<_}
+use Prim.Native.Nat.{ℕ, _-_, _/_, _%_, _≤_}
 use native.Mathlib.Omega.{arith}
 use lib.Dec.{leb, leb→le}
 use lib.ListN.{length, take, drop, getD, length-drop}
 use Rattle.bpg_codec.specs.Select.{select}
 use Rattle.bpg_codec.specs.Outcome.{ok}
 use Rattle.bpg_codec.specs.Parts.{same}
-use Rattle.bpg_codec.specs.Lawful.{All, Byte}
 use Rattle.bpg_codec.proofs.Outcome.{ok-injective, unbind, unguard}
 use Rattle.bpg_codec.proofs.Positions.{Advanced, advanced-then}
-use Rattle.bpg_codec.proofs.Tokens.{all-rest, all-drop}
-use Rattle.bpg_numbers.specs.Ue7.{ue7Bytes, notZero}
-use Rattle.bpg_numbers.proofs.Advances.{ue7-advances, ue7-limit}
-use Rattle.bpg_numbers.proofs.Ue7Laws.{ue7-lawful}
+use Rattle.bpg_numbers.specs.Ue7.{notZero}
+use Rattle.bpg_numbers.proofs.Advances.{ue7-advances}
 use Rattle.bpg_format.specs.Content.{Flags}
 use Rattle.bpg_format.specs.Syntax.{magic}
 use Rattle.bpg_format.specs.FileCodec.{flagsOf, colorSpaceAllowed, readFlags}
@@ -25,32 +22,12 @@ use Rattle.bpg_head.specs.Heads.{HeadFields, readHead, readExtensionLeng
 pub record HeadFacts (l : List ℕ) (h : HeadFields) : Type 0 where
   pub end-inside : h .end ≤ length l
   pub depth-limit : h .flags .bitDepthMinus8 ≤ 6
-  pub width-limit : h .width < 2 ^ 32
-  pub height-limit : h .height < 2 ^ 32
-  pub data-length-limit : h .dataLength < 2 ^ 32
-  pub extension-length-limit : h .extensionLength < 2 ^ 32
-
--- the offsets, from the numbers
-pub record HeadOffsets (h : HeadFields) : Type 0 where
-  pub data-length-at : h .dataLengthAt ≡ 6 + length (ue7Bytes (h .width)) + length (ue7Bytes (h .height))
-  pub extension-length-at : h .extensionLengthAt ≡ h .dataLengthAt + length (ue7Bytes (h .dataLength))
-  pub end-at : h .end ≡ h .extensionLengthAt + select (h .flags .extensionPresent) (length (ue7Bytes (h .extensionLength))) 0
 
 -- ---- one number
 
 module _ (p : ℕ) (l : List ℕ) (x : ℕ × ℕ × List ℕ) where
   advanced : number 32 p l ≡ ok x → Advanced p l (x .1) (x .2)
   advanced e = ue7-advances 32 .advances p p l x e
-
-  limit : number 32 p l ≡ ok x → x .0 < 2 ^ 32
-  limit e = ue7-limit 32 p p l x e
-
-  module _ (b : All Byte l) (e : number 32 p l ≡ ok x) where
-    size : x .1 ≡ p + length (ue7Bytes (x .0))
-    size = ue7-lawful 32 .encodes p p l b (x .0) (x .1) (x .2) e .2
-
-    left-bytes : All Byte (x .2)
-    left-bytes = all-rest Byte l (ue7Bytes (x .0)) (x .2) b (ue7-lawful 32 .encodes p p l b (x .0) (x .1) (x .2) e .1)
 
 -- ---- the extension length, there or not
 
@@ -62,16 +39,6 @@ module _ (p : ℕ) (l : List ℕ) (x : ℕ × ℕ × List ℕ) where
       let z : p - p ≡ 0 = omega arith in
       subst (λ (y : ℕ × ℕ × List ℕ). Advanced p l (y .1) (y .2)) (ok-injective e)
       (record { forward = omega arith; inside = omega arith; left = ap (λ (k : ℕ). drop k l) (sym z) })
-
-  optional-limit : (t : Bool) → readExtensionLength t p l ≡ ok x → x .0 < 2 ^ 32
-  unfolding select
-  optional-limit true e = limit p l x e
-  optional-limit false e = subst (λ (y : ℕ × ℕ × List ℕ). y .0 < 2 ^ 32) (ok-injective e) (omega arith)
-
-  optional-size : (t : Bool) → All Byte l → readExtensionLength t p l ≡ ok x → x .1 ≡ p + select t (length (ue7Bytes (x .0))) 0
-  unfolding select
-  optional-size true b e = size p l x b e
-  optional-size false b e = subst (λ (y : ℕ × ℕ × List ℕ). y .1 ≡ p + 0) (ok-injective e) (omega arith)
 
 -- ---- the head
 
@@ -116,21 +83,4 @@ head-facts l h e =
     record {
       end-inside = omega (arith, six-bytes l f e1, advanced-then a b .inside, length-drop 6 l);
       depth-limit = depth-small l f e1;
-      width-limit = limit 6 (drop 6 l) w e2;
-      height-limit = limit (w .1) (w .2) v e3;
-      data-length-limit = limit (v .1) (v .2) s e4;
-      extension-length-limit = optional-limit (s .1) (s .2) x (f .extensionPresent) e5;
-    }
-
-pub head-offsets : (l : List ℕ) → All Byte l → (h : HeadFields) → readHead l ≡ ok h → HeadOffsets h
-head-offsets l b h e =
-    take-apart HeadOffsets l h e λ f w v s x e1 e2 e3 e4 e5.
-    let b1 = all-drop Byte 6 l b in
-    let b2 = left-bytes 6 (drop 6 l) w b1 e2 in
-    let b3 = left-bytes (w .1) (w .2) v b2 e3 in
-    let b4 = left-bytes (v .1) (v .2) s b3 e4 in
-    record {
-      data-length-at = omega (arith, size 6 (drop 6 l) w b1 e2, size (w .1) (w .2) v b2 e3);
-      extension-length-at = size (v .1) (v .2) s b3 e4;
-      end-at = optional-size (s .1) (s .2) x (f .extensionPresent) b4 e5;
     }
