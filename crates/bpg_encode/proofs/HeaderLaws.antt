@@ -9,15 +9,13 @@ use Rattle.bpg_codec.specs.Select.{select}
 use Rattle.bpg_codec.specs.Bits.{bytesFor, padded}
 use Rattle.bpg_codec.proofs.Lists.{either-way}
 use Rattle.bpg_codec.proofs.Bits.{length-bits}
-use Rattle.bpg_codec.proofs.Packed.{length-padded}
-use Rattle.bpg_numbers.specs.Ue7.{ue7Bytes}
 use Rattle.bpg_numbers.specs.BitNumbers.{expGolombBits}
 use Rattle.bpg_numbers.proofs.BitNumberLaws.{top, expGolomb-size, expGolomb-none}
 use Rattle.bpg_numbers.specs.declared.bit_buffer.BitBuffer.{BitBuffer}
 use Rattle.bpg_numbers.specs.BitBuffer.{empty}
 use Rattle.bpg_numbers.proofs.BitBufferLaws.{holds-bytes}
 use Rattle.bpg_format.specs.declared.record.Header.{Header}
-use Rattle.bpg_format.specs.Syntax.{pcmBits, spsExtensionBits, headerBits, headerBytes}
+use Rattle.bpg_format.specs.Syntax.{pcmBits, spsExtensionBits, headerBits}
 use Rattle.bpg_encode.specs.Adding.{Added, sizeBits}
 use Rattle.bpg_encode.proofs.AddingLaws.{added-to-empty}
 
@@ -53,13 +51,6 @@ header-bits-most h k =
       select-most (h .«sps_extension_present_flag») (spsExtensionBits h) 8 (omega (arith, length-bits 7 (h .«sps_extension_7bits»))),
       select-most (h .«sps_range_extension_flag») (h .«range_flags») 9 (omega arith),
     ))
-
-pub header-most : (h : Header) → length (h .«range_flags») ≡ 9 → length (padded (headerBits h)) ≤ 59
-header-most h k = omega (arith, length-padded (headerBits h), header-bits-most h k)
-
-pub header-bytes-length : (h : Header) → length (headerBytes h) ≡ length (ue7Bytes (length (padded (headerBits h)))) + length (padded (headerBits h))
-unfolding headerBytes
-header-bytes-length h = length-append (ue7Bytes (length (padded (headerBits h)))) (padded (headerBits h))
 
 -- ---- the groups of fields, as they are added
 
