@@ -1,6 +1,9 @@
 // Bytes in hex digits.
 use crate::text;
+ghost use mathlib.Core.Path.{_≡_};
 ghost use Prim.Native.Nat.{_≤_};
+ghost use lib.ListN.{length as count};
+ghost use Rattle.bpg_cases.specs.HexLines.{digitValue, lineAt, lineAfter, bytesAfter};
 
 // `half` in a comment.
 const COMMENT: u8 = 17;
@@ -11,13 +14,16 @@ pub struct HexLine {
     half: u8,
 }
 
-pub fn none() -> HexLine {
+pub fn none() -> HexLine
+    ensures { λ r. ⌜ r ≡ lineAt 0 16 ⌝ }
+{
     HexLine { count: 0, half: 16 }
 }
 
 // A digit's value, or 16.
 fn digit(c: u8) -> u8
     ensures { λ r. ⌜ r ≤ 16 ⌝ }
+    ensures { λ r. ⌜ r ≡ digitValue c ⌝ }
 {
     match c {
         b'0'..=b'9' => c - b'0',
@@ -28,7 +34,10 @@ fn digit(c: u8) -> u8
 
 // Takes one more character of a line, whose bytes are put into a buffer. What is not a digit is passed over, and so is a comment
 // from `#` on, and what does not fit.
-pub fn extend(bytes: &mut [u8], line: HexLine, c: u8) -> HexLine {
+pub fn extend(bytes: &mut [u8], line: HexLine, c: u8) -> HexLine
+    ensures { λ r. ⌜ r ≡ lineAfter (count (now (bytes .entry))) line c ⌝ }
+    ensures { λ r. ⌜ now (bytes .exit) ≡ bytesAfter (now (bytes .entry)) line c ⌝ }
+{
     let d = digit(c);
     let count = line.count;
     let half = line.half;

@@ -1,5 +1,5 @@
-// A case's bytes: a record's fields in the order of `Record`, each with the high byte first, a flag as a byte; then the size of the
-// buffer, the number of zeros that are the source, and, where that is 0, the source.
+// A case's bytes: a record's fields in the order of `Record`, each with the high byte first, a flag as a byte, so that an entry has
+// 12 bytes and a header 46; then the size of the buffer, the number of zeros that are the source, and, where that is 0, the source.
 use bpg_format::Entry;
 use bpg_format::Header;
 use bpg_format::Range;
