@@ -99,7 +99,7 @@ fn header(s: &[u8], at: usize) -> Header
     }
 }
 
-pub fn record(s: &[u8]) -> Record {
+pub(crate) fn record(s: &[u8]) -> Record {
     Record {
         pixel_format: byte(s, 0),
         alpha1_flag: flag(s, 1),
@@ -122,10 +122,10 @@ pub fn record(s: &[u8]) -> Record {
     }
 }
 
-pub fn size(s: &[u8]) -> usize {
+pub(crate) fn size(s: &[u8]) -> usize {
     four_bytes(s, SIZE) as usize
 }
 
-pub fn zeros(s: &[u8]) -> usize {
+pub(crate) fn zeros(s: &[u8]) -> usize {
     four_bytes(s, ZEROS) as usize
 }
