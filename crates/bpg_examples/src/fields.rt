@@ -1,5 +1,5 @@
 // What the summary leaves out of an accepted file's reading.
-use crate::text;
+use bpg_cases::text;
 use bpg_format::Entry;
 use bpg_format::Header;
 use bpg_format::Range;

@@ -3,12 +3,12 @@
 //
 // A file is a line of hex digits; `-` is the empty file.
 mod fields;
-mod hex;
-mod text;
 
+use bpg_cases::hex;
+use bpg_cases::hex::HexLine;
+use bpg_cases::text;
 use bpg_format::Reading;
 use bpg_summary::line;
-use hex::HexLine;
 
 // What `bpgshow` prints, without the newline.
 fn show_summary(reading: Reading) {
@@ -38,40 +38,40 @@ fn show_file(bytes: &[u8], count: usize) {
     show_reading(bpg_reader::read(file));
 }
 
-fn show_line(line: HexLine) {
-    let bytes = line.bytes;
-    let count = line.count;
-    show_file(&bytes, count);
+// Takes one more character; a line that ends is a file. `bytes` is room for a line.
+fn take(bytes: &mut [u8], line: HexLine, c: u8) -> HexLine {
+    if c == b'\n' {
+        show_file(bytes, line.count);
+        return hex::none();
+    }
+    hex::extend(bytes, line, c)
 }
 
 // Each line of the text; the answer is what follows the last.
-fn show_lines(s: &[u8], begun: HexLine) -> HexLine {
+fn show_lines(s: &[u8], bytes: &mut [u8], begun: HexLine) -> HexLine {
     let mut line = begun;
     let mut i = 0;
     while i < s.len() {
-        if s[i] == b'\n' {
-            show_line(line);
-            line = hex::none();
-        } else {
-            line = hex::extended(line, s[i]);
-        }
+        line = take(bytes, line, s[i]);
         i += 1;
     }
     line
 }
 
-fn show_chunk(begun: HexLine) -> HexLine {
+fn show_chunk(bytes: &mut [u8], begun: HexLine) -> HexLine {
     let mut space = io::large_buffer();
     let n = io::read_full(0, &mut space);
-    show_lines(&space[..n], begun)
+    show_lines(&space[..n], bytes, begun)
 }
 
 // The input's first 16 chunks of 65,536 bytes: more than the cases take.
 fn main() {
+    let mut space = io::buffer();
+    let bytes: &mut [u8] = &mut space;
     let mut line = hex::none();
     let mut left: usize = 16;
     while 0 < left {
-        line = show_chunk(line);
+        line = show_chunk(bytes, line);
         left -= 1;
     }
 }

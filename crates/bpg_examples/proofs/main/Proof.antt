@@ -4,10 +4,16 @@ use Rattle.bpg_examples.proofs.main.Statement.{statement}
 use Rattle.bpg_examples.proofs.main.Tie as tie
 
 abbrev Inv-loop : tie.InvT-loop
-Inv-loop line₀ left₀ line left = Unit {0}
+Inv-loop bytes₀ line₀ left₀ bytes line left = Unit {0}
 
 abbrev μ-loop : tie.MeasureT-loop
-μ-loop line₀ left₀ line left = left
+μ-loop bytes₀ line₀ left₀ bytes line left = left
+
+buffer-requires : tie.Need-buffer-requires Inv-loop μ-loop
+buffer-requires c κs = search needs
+
+slice-aggregate-bytes : tie.Need-slice-aggregate-bytes Inv-loop μ-loop
+slice-aggregate-bytes c = search needs
 
 none-requires : tie.Need-none-requires Inv-loop μ-loop
 none-requires c κs = search needs
@@ -36,6 +42,8 @@ main-spec =
     (tie.spec
     Inv-loop
     μ-loop
+    buffer-requires
+    slice-aggregate-bytes
     none-requires
     loop-holds
     show-chunk-requires

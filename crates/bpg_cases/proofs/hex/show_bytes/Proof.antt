@@ -2,8 +2,8 @@
 use Prim.Native.Nat.{_≤_, _-_}
 use lib.ListN.{length}
 use borrow.Author.Needs.{needs}
-use Rattle.bpg_examples.proofs.hex.show_bytes.Statement.{statement}
-use Rattle.bpg_examples.proofs.hex.show_bytes.Tie as tie
+use Rattle.bpg_cases.proofs.hex.show_bytes.Statement.{statement}
+use Rattle.bpg_cases.proofs.hex.show_bytes.Tie as tie
 
 abbrev Inv-loop : tie.InvT-loop
 Inv-loop s i₀ i = i ≤ length s

@@ -1,0 +1,2 @@
+-- The laws of lines of hex digits.
+pub mod HexLaws

@@ -1,0 +1,2 @@
+-- What the reader of hex digits answers.
+pub mod HexLines
