@@ -85,16 +85,16 @@ module _ (region : List ℕ) (bytes : All Byte region) (seen : Bool) (p : ℕ) (
 
 -- ---- the loop
 
--- the block with a step's entry, and with its animation where that has tag 5
-abbrev pub addedBlock : Block → Step → Block
-addedBlock b t =
+-- the block with a step's entry, and with what is then known of the animation
+abbrev pub addedBlock : Block → Step → Bool → Animation → Block
+addedBlock b t animated animation =
     record {
       status = b .status;
       offset = b .offset;
       «entry_count» = b .«entry_count» + 1;
       entries = set (b .entries) (b .«entry_count») (t .entry);
-      animated = select (eqb (t .entry .tag) 5) true (b .animated);
-      animation = select (eqb (t .entry .tag) 5) (t .animation) (b .animation);
+      animated = animated;
+      animation = animation;
     }
 
 -- `done` was read from p on, and stands in the block; from `next` on the rest is read
@@ -182,7 +182,10 @@ module _ (region : List ℕ) (p : ℕ) (block : Block) (next : ℕ) (inv : Readi
                   extension-refuses (block .animated) .refuses next next (drop next region) s o (entry-chain (block .animated) next (drop next region) ∙ d) .0,
                 ))
 
-        module _ (bytes : All Byte region) (z : t .status ≡ 0) where
+        -- an entry with tag 5 says what is known of the animation; no other does
+        module _ (bytes : All Byte region) (z : t .status ≡ 0) (animated : Bool) (animation : Animation)
+            (says : select (eqb (t .entry .tag) 5) true (block .animated) ≡ animated)
+            (said : select (eqb (t .entry .tag) 5) (t .animation) (block .animation) ≡ animation) where
           module _ (x : Extension × ℕ × List ℕ) (d : readEntry (block .animated) next (drop next region) ≡ ok x) (f : t ≡ stepAnswer (ok x)) where
             abbrev new : Extension
             new = x .0
@@ -241,7 +244,7 @@ module _ (region : List ℕ) (p : ℕ) (block : Block) (next : ℕ) (inv : Readi
             count-new : block .«entry_count» + 1 ≡ length (inv .done ++ (new ∷ []))
             count-new = omega (arith, count, length-append (inv .done) (new ∷ []))
 
-            added-new : addedBlock block t ≡ blockAnswer p (ok (inv .done ++ (new ∷ [])))
+            added-new : addedBlock block t animated animation ≡ blockAnswer p (ok (inv .done ++ (new ∷ [])))
             added-new =
                 λ z.
                 record {
@@ -249,15 +252,15 @@ module _ (region : List ℕ) (p : ℕ) (block : Block) (next : ℕ) (inv : Readi
                   offset = ap (λ (b : Block). b .offset) (inv .is) z;
                   «entry_count» = count-new z;
                   entries = entries-new z;
-                  animated = animated-new z;
-                  animation = animation-new z;
+                  animated = (sym says ∙ animated-new) z;
+                  animation = (sym said ∙ animation-new) z;
                 }
 
-            read-on : Reading region p (addedBlock block t) (t .next)
+            read-on : Reading region p (addedBlock block t animated animation) (t .next)
             read-on =
                 record { done = inv .done ++ (new ∷ []); is = added-new; few = omega (arith, count, count-new); at = at-new; rest = rest-new }
 
-          pub goes-on : Reading region p (addedBlock block t) (t .next)
+          pub goes-on : Reading region p (addedBlock block t animated animation) (t .next)
           goes-on = entry-read z read-on
 
 -- ---- the region's length

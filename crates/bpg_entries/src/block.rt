@@ -8,9 +8,6 @@ use bpg_format::MAX_FILE;
 use bpg_format::zero_entry;
 use bpg_numbers::BytePos;
 ghost use mathlib.Core.Path.{_≡_};
-ghost use mathlib.Core.Bool.{true};
-ghost use lib.Dec.{eqb};
-ghost use Rattle.bpg_codec.specs.Select.{select};
 ghost use Rattle.bpg_entries.specs.Blocks.{refusedBlock, blockAnswer, entriesIn};
 
 // Status 0, the entries, whether one has tag 5, and what it says; or a refusal and zeros.
@@ -36,26 +33,6 @@ pub fn refused(status: u8, offset: usize) -> Block
         animated: false,
         animation,
     }
-}
-
-// Whether an entry with tag 5 has been read, after one with this tag.
-fn animated_after(tag: u32, animated: bool) -> bool
-    ensures { λ r. ⌜ r ≡ select (eqb tag 5) true animated ⌝ }
-{
-    if tag == 5 {
-        return true;
-    }
-    animated
-}
-
-// What is said of the animation, after an entry with this tag.
-fn animation_after(tag: u32, found: Animation, before: Animation) -> Animation
-    ensures { λ r. ⌜ r ≡ select (eqb tag 5) found before ⌝ }
-{
-    if tag == 5 {
-        return found;
-    }
-    before
 }
 
 // The entries from `at` to the end of the region. A region longer than a file is refused.
@@ -84,8 +61,10 @@ pub fn read(region: &[u8], at: BytePos) -> Block
         let found = step.animation;
         entries[entry_count as usize] = entry;
         entry_count += 1;
-        animated = animated_after(entry.tag, animated);
-        animation = animation_after(entry.tag, found, animation);
+        if entry.tag == 5 {
+            animated = true;
+            animation = found;
+        }
         next = step.next;
     }
     Block {

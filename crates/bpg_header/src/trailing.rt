@@ -1,13 +1,12 @@
 // The bits after a header's last field.
 use bpg_numbers::BitPos;
 use bpg_numbers::bits;
-use bpg_numbers::bits::BitNumber;
 ghost use mathlib.Core.Path.{_≡_};
 ghost use lib.ListN.{drop};
 ghost use Rattle.bpg_numbers.specs.BitNumbers.{regionBits};
 ghost use Rattle.bpg_header.specs.Headers.{isPadding};
 
-// From `at` on there are 0 to 7 bits, all zero.
+// From `at` on there are 0 to 7 bits, all zero: the low bits of the byte that `at` stands in.
 pub fn is_padding(region: &[u8], at: BitPos) -> bool
     ensures { λ r. ⌜ r ≡ isPadding (drop (at .0) (regionBits (now (region .entry)))) ⌝ }
 {
@@ -20,8 +19,5 @@ pub fn is_padding(region: &[u8], at: BitPos) -> bool
     if 8 <= left {
         return false;
     }
-    match bits::read(region, at, left as u32) {
-        BitNumber::Missing => false,
-        BitNumber::Value(value, next) => value == 0,
-    }
+    region[start / 8] % (1u8 << left) == 0
 }

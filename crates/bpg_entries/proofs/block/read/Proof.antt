@@ -2,18 +2,21 @@
 use mathlib.Core.Path.{_≡_, sym, ap, _∙_, subst}
 use mathlib.Core.Bool.{Bool, true, false}
 use mathlib.Core.List.{List}
-use Prim.Native.Nat.{ℕ, _+_, _-_}
+use Prim.Native.Nat.{ℕ, _+_, _-_, _<_}
 use native.Mathlib.Omega.{arith}
 use lib.Dec.{eqb}
 use lib.ListN.{drop, set, replicate}
 use borrow.Author.Needs.{needs}
+use borrow.Author.Tests.{eq-eqb, ne-eqb}
 use Rattle.bpg_codec.specs.Select.{select}
 use Rattle.bpg_codec.specs.Lawful.{All, Byte}
+use Rattle.bpg_codec.proofs.Select.{select-true, select-false}
 use Rattle.bpg_codec.proofs.Tokens.{all-bytes}
 use Rattle.bpg_format.specs.Limits.{maxEntries}
 use Rattle.bpg_format.specs.declared.record.Entry.{Entry}
 use Rattle.bpg_format.specs.Read.{readEntries}
 use Rattle.bpg_entries.specs.declared.animation.Animation.{Animation}
+use Rattle.bpg_entries.specs.declared.entry.Step.{Step}
 use Rattle.bpg_entries.specs.declared.block.Block.{Block}
 use Rattle.bpg_entries.specs.Animations.{refusedAnimation}
 use Rattle.bpg_entries.specs.Blocks.{blockAnswer, entriesIn}
@@ -108,25 +111,39 @@ array-set-from-entries c = search needs
 add-entry-count : tie.Need-add-entry-count Inv-loop μ-loop
 add-entry-count c = search needs
 
-animated-after-requires : tie.Need-animated-after-requires Inv-loop μ-loop
-animated-after-requires c κs = search needs
+-- the entry was read and stored
+module _ (c : tie.After-struct-known2 Inv-loop μ-loop) where
+  abbrev read : tie.After-read Inv-loop μ-loop
+  read = c .before .before .before .before .before
 
-animation-after-requires : tie.Need-animation-after-requires Inv-loop μ-loop
-animation-after-requires c κs = search needs
+  abbrev turn : tie.At-loop Inv-loop μ-loop
+  turn = read .before .before .before
+
+  abbrev step : Step
+  step = read .read .result
+
+  less : maxEntries - (turn .loop .entry-count + 1) < maxEntries - turn .loop .entry-count
+  less = omega (arith, read .before .if2 .left)
+
+  stored : (animated : Bool) (animation : Animation)
+      → select (eqb (step .entry .tag) 5) true (turn .loop .animated) ≡ animated
+      → select (eqb (step .entry .tag) 5) (step .animation) (turn .loop .animation) ≡ animation
+      → Reading (region turn) (at turn) (made (set (turn .loop .entries) (turn .loop .entry-count) (step .entry)) (turn .loop .entry-count + 1) animated animation) (step .next)
+  stored =
+      goes-on _ _ (block turn) _ (turn .loop .inv) (read .before .before .loop-test .taken) (read .before .if2 .left) step (read .read .ensures) (bytes turn)
+      (c .before .before .before .if3 .left)
 
 loop-less : tie.Need-loop-less Inv-loop μ-loop
-loop-less c = omega (arith, c .before .before .before .before .before .before .before .if2 .left)
+loop-less c = less (c .before)
 
 loop-again : tie.Need-loop-again Inv-loop μ-loop
-loop-again c =
-    let r = c .before .before .before .before .before .before in
-    let l = r .before .before .before in
-    let more = goes-on _ _ (block l) _ (l .loop .inv) (r .before .before .loop-test .taken) (r .before .if2 .left) (r .read .result) (r .read .ensures) (bytes l) (c .before .before .before .before .if3 .left) in
-    let es = set (l .loop .entries) (l .loop .entry-count) (r .read .result .entry) in
-    let n = l .loop .entry-count + 1 in
-    subst (λ (b : Bool). Reading (region l) (at l) (made es n b (c .animation-after .result)) (r .read .result .next)) (sym (c .before .animated-after .ensures))
-    (subst (λ (y : Animation). Reading (region l) (at l) (made es n (select (eqb (r .read .result .entry .tag) 5) true (l .loop .animated)) y) (r .read .result .next))
-    (sym (c .animation-after .ensures)) more)
+loop-again c = let tag = eq-eqb _ _ (c .if4 .taken) in stored (c .before) _ _ (select-true _ _ tag) (select-true _ _ tag)
+
+loop-less-2 : tie.Need-loop-less-2 Inv-loop μ-loop
+loop-less-2 c = less (c .before)
+
+loop-again-2 : tie.Need-loop-again-2 Inv-loop μ-loop
+loop-again-2 c = let tag = ne-eqb _ _ (c .if4 .left) in stored (c .before) _ _ (select-false _ _ tag) (select-false _ _ tag)
 
 returns-4 : tie.Need-returns-4 Inv-loop μ-loop
 returns-4 c = let l = c .before in ends _ _ (block l) _ (l .loop .inv) (c .loop-test .left) ∙ ap (blockAnswer (at l)) (short l)
@@ -152,8 +169,8 @@ read-spec =
     mul-entries
     array-set-from-entries
     add-entry-count
-    animated-after-requires
-    animation-after-requires
     loop-less
     loop-again
+    loop-less-2
+    loop-again-2
     returns-4)

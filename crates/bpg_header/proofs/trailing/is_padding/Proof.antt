@@ -1,76 +1,75 @@
 -- `trailing::is_padding` meets its contract. Assumes nothing.
-use mathlib.Core.Path.{_≡_, sym, ap, _∙_}
+use mathlib.Core.Path.{_≡_, refl}
 use mathlib.Core.Bool.{Bool}
 use mathlib.Core.List.{List}
-use Prim.Native.Nat.{ℕ, min, _-_, _<_}
+use Prim.Native.Nat.{ℕ, _-_, _*_, _%_, _^_, _<_}
 use native.Mathlib.Omega.{arith}
-use lib.ListN.{length}
+use lib.ListN.{length, take, length-take}
+use lib.Pow.{pow-pos}
+use Rattle.bpg_codec.proofs.Bits.{length-unpack}
 use Rattle.bpg_numbers.specs.BitNumbers.{regionBits}
-use Rattle.bpg_numbers.specs.Answers.{bitOutcome}
-use Rattle.bpg_header.proofs.PaddingLaws.{none-left, many-left, never-missing, decided}
+use Rattle.bpg_numbers.proofs.Shifts.{one-shifted}
+use Rattle.bpg_header.proofs.PaddingLaws.{none-left, many-left, decided}
 use borrow.Author.Needs.{needs}
 use Rattle.bpg_header.proofs.trailing.is_padding.Statement.{statement}
 use Rattle.bpg_header.proofs.trailing.is_padding.Tie as tie
 
 -- the bits are counted
 module _ (c : tie.After-count) where
-  abbrev bits : List Bool
-  bits = regionBits (c .before .before .args .region .now)
+  abbrev region : List ℕ
+  region = c .before .before .args .region .now
 
   abbrev at : ℕ
   at = c .before .before .args .at .0
 
-  counted : c .count .result ≡ length bits
+  counted : c .count .result ≡ length (regionBits region)
   counted = c .count .ensures
 
 -- and there are fewer than eight
-module _ (c : tie.Else2) where
+module _ (c : tie.After-shared-slice-known2) where
   abbrev start : tie.After-count
-  start = c .before .before
+  start = c .before .before .before
 
-  abbrev width : ℕ
-  width = min (start .count .result - at start) 32
+  abbrev left : ℕ
+  left = start .count .result - at start
 
-  narrow : (width ≡ length (bits start) - at start) × (width < 8)
-  narrow = (omega (arith, c .if2 .left, counted start), omega (arith, c .if2 .left))
+  some : 0 < left
+  some = omega (arith, c .before .before .if1 .left)
+
+  few : left < 8
+  few = omega (arith, c .before .if2 .left)
+
+  shifted : (1 * 2 ^ left) % 2 ^ 8 ≡ 2 ^ left
+  shifted = one-shifted left 8 few
 
 count-requires : tie.Need-count-requires
 count-requires c κs = search needs
 
 returns : tie.Need-returns
-returns c = let k = c .before in none-left (bits k) (at k) (omega (arith, c .if1 .taken, counted k))
+returns c = let k = c .before in none-left (regionBits (region k)) (at k) (omega (arith, c .if1 .taken, counted k))
 
 sub-left : tie.Need-sub-left
 sub-left c = search needs
 
 returns-2 : tie.Need-returns-2
-returns-2 c = let k = c .before .before in many-left (bits k) (at k) (omega (arith, c .if2 .taken, counted k))
+returns-2 c = let k = c .before .before in many-left (regionBits (region k)) (at k) (omega (arith, c .if2 .taken, counted k))
 
-cast-read : tie.Need-cast-read
-cast-read c = search needs
+shared-slice-read-result : tie.Need-shared-slice-read-result
+shared-slice-read-result c =
+    let l = region (start c) in
+    omega (arith, c .before .before .if1 .left, counted (start c), length-unpack (take (2 ^ 60) l), length-take (2 ^ 60) l)
 
-read-requires : tie.Need-read-requires
-read-requires c κs = search needs
+cast-result : tie.Need-cast-result
+cast-result c = search needs
 
-enum-told : tie.Need-enum-told
-enum-told c = search needs
+shl-result : tie.Need-shl-result
+shl-result c = search needs
 
-enum-known-value : tie.Need-enum-known-value
-enum-known-value c = search needs
+rem-result : tie.Need-rem-result
+rem-result c = rw (shifted c) (pow-pos (left c))
 
 returns-3 : tie.Need-returns-3
-returns-3 c =
-    let r = c .before .before in
-    let k = start (r .before) in
-    never-missing (bits k) (at k) 0 (width (r .before)) (narrow (r .before) .0) (ap (bitOutcome 0) (sym (c .enum-told .given .1)) ∙ r .read .ensures 0)
-
-returns-4 : tie.Need-returns-4
-returns-4 c =
-    let r = c .before .before .before in
-    let k = start (r .before) in
-    let n = narrow (r .before) in
-    let v = c .before .value .given in
-    decided (bits k) (at k) 0 (width (r .before)) (v .0 .0) (v .0 .1 .0 .0) (n .0) (n .1) (ap (bitOutcome 0) (sym (v .1)) ∙ r .read .ensures 0)
+returns-3 c = rw (shifted c) (decided (region (start c)) (at (start c)) (left c) _ (omega (arith, counted (start c))) (some c) (few c) refl)
 
 pub is-padding-spec : {M : Type 1} → statement M
 is-padding-spec =
@@ -80,9 +79,8 @@ is-padding-spec =
     returns
     sub-left
     returns-2
-    cast-read
-    read-requires
-    enum-told
-    enum-known-value
-    returns-3
-    returns-4)
+    shared-slice-read-result
+    cast-result
+    shl-result
+    rem-result
+    returns-3)
