@@ -38,7 +38,7 @@ fn show_file(bytes: &[u8], count: usize) {
     show_reading(bpg_reader::read(file));
 }
 
-// Takes one more character; a line that ends is a file. `bytes` is room for a line.
+// Takes one more character; a line that ends is a file. `bytes` holds a line.
 fn take(bytes: &mut [u8], line: HexLine, c: u8) -> HexLine {
     if c == b'\n' {
         show_file(bytes, line.count);

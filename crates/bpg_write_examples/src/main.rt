@@ -80,7 +80,7 @@ fn show_case(bytes: &[u8], count: usize) {
     show_record(record, &bytes[case::SOURCE..count], size);
 }
 
-// Takes one more character; a line that ends is a case. `bytes` is room for a line.
+// Takes one more character; a line that ends is a case. `bytes` holds a line.
 fn take(bytes: &mut [u8], line: HexLine, c: u8) -> HexLine {
     if c == b'\n' {
         show_case(bytes, line.count);
