@@ -28,7 +28,7 @@ fn largest(n: u32) -> u64
     (1u64 << n) - 1
 }
 
-// The number of at most n bits at `at`; n above 32 counts as 32.
+// The number of at most n bits at `at`; n above 32 counts as 32. Most numbers have one byte, so the first is read before the loop.
 pub fn read(region: &[u8], at: BytePos, n: u32) -> Number
     ensures { λ r. ⌜ numberOutcome r ≡ located (ue7 (min n 32) .decode (at .0) (at .0) (drop (at .0) (now (region .entry)))) ⌝ }
 {
@@ -37,12 +37,20 @@ pub fn read(region: &[u8], at: BytePos, n: u32) -> Number
     if end <= start {
         return Number::Refused(2, at);
     }
-    if region[start] == 0x80 {
+    let first = region[start];
+    if first == 0x80 {
         return Number::Refused(7, at);
     }
     let most = largest(n);
-    let mut value: u64 = 0;
-    let mut next = start;
+    let low = (first % 128) as u64;
+    if most < low {
+        return Number::Refused(8, at);
+    }
+    if first < 128 {
+        return Number::Value(low as u32, BytePos(start + 1));
+    }
+    let mut value = low;
+    let mut next = start + 1;
     while next < end {
         let byte = region[next];
         value = value * 128 + ((byte % 128) as u64);

@@ -1,7 +1,7 @@
 -- `ue7::read` meets its contract. The invariant: the value so far is within the limit, and reading on from the next byte gives
 -- what reading from the start does. Assumes nothing.
 use Prim.Native.Nat.{ℕ, min, _+_, _-_, _*_, _%_, _^_, _≤_, _<_}
-use mathlib.Core.Path.{_≡_, sym, _∙_}
+use mathlib.Core.Path.{_≡_, sym, ap, _∙_}
 use mathlib.Core.List.{List, _∷_}
 use native.Mathlib.Omega.{arith}
 use lib.ListN.{length, drop, getD, drop-of-length-le}
@@ -15,11 +15,11 @@ use Rattle.bpg_numbers.proofs.ue7.read.Statement.{statement}
 use Rattle.bpg_numbers.proofs.ue7.read.Tie as tie
 
 abbrev Inv-loop : tie.InvT-loop
-Inv-loop region at n start end most value₀ next₀ value next =
+Inv-loop region at n start end first most low value₀ next₀ value next =
     (value ≤ most) × (ue7Decode (min n 32) start (drop start region) ≡ ue7Rest (min n 32) start value next (drop next region))
 
 abbrev μ-loop : tie.MeasureT-loop
-μ-loop region at n start end most value₀ next₀ value next = end - next
+μ-loop region at n start end first most low value₀ next₀ value next = end - next
 
 -- ---- what each way out and each turn says of the definition
 
@@ -57,13 +57,32 @@ module _ (n start : ℕ) (region : List ℕ) where
           → all ≡ ue7Rest n start (v * 128 + getD region p 0 % 128) (p + 1) (drop (p + 1) region)
       more k l = seen ∙ rest-more n start v p (getD region p 0) (drop (p + 1) region) k l
 
+  -- the first byte, which is not 0x80
+  module _ (h : start < length region) (e : getD region start 0 ≡ 128 → ⊥) where
+    low-is : 0 * 128 + getD region start 0 % 128 ≡ getD region start 0 % 128
+    low-is = omega arith
+
+    first-large : 2 ^ n ≤ getD region start 0 % 128 → error 8 start ≡ located all
+    first-large k = large 0 start (begun h e) h (omega arith)
+
+    first-done : getD region start 0 % 128 < 2 ^ n → getD region start 0 < 128 → ok (getD region start 0 % 128, start + 1) ≡ located all
+    first-done k l = ap (λ (v : ℕ). ok (v, start + 1)) (sym low-is) ∙ done 0 start (begun h e) h (omega arith) l
+
+    first-more : getD region start 0 % 128 < 2 ^ n → 128 ≤ getD region start 0
+        → all ≡ ue7Rest n start (getD region start 0 % 128) (start + 1) (drop (start + 1) region)
+    first-more k l = more 0 start (begun h e) h (omega arith) l ∙ ap (λ (v : ℕ). ue7Rest n start v (start + 1) (drop (start + 1) region)) low-is
+
 -- ---- the needs
+
+-- a power of two is not 0
+some : (c : tie.After-largest Inv-loop μ-loop) → 0 < 2 ^ min (c .before .before .before .before .before .args .n) 32
+some c = pow-pos (min (c .before .before .before .before .before .args .n) 32)
 
 returns : tie.Need-returns Inv-loop μ-loop
 returns c = empty _ _ _ (omega arith)
 
-shared-slice-read-if2 : tie.Need-shared-slice-read-if2 Inv-loop μ-loop
-shared-slice-read-if2 c = omega arith
+shared-slice-read-first : tie.Need-shared-slice-read-first Inv-loop μ-loop
+shared-slice-read-first c = omega arith
 
 returns-2 : tie.Need-returns-2 Inv-loop μ-loop
 returns-2 c = marked _ _ _ (omega arith) (c .if2 .taken)
@@ -71,8 +90,26 @@ returns-2 c = marked _ _ _ (omega arith) (c .if2 .taken)
 largest-requires : tie.Need-largest-requires Inv-loop μ-loop
 largest-requires c κs = search needs
 
+cast-low : tie.Need-cast-low Inv-loop μ-loop
+cast-low c = omega arith
+
+returns-3 : tie.Need-returns-3 Inv-loop μ-loop
+returns-3 c = first-large _ _ _ (omega arith) (c .before .before .if2 .left) (omega arith)
+
+cast-t15 : tie.Need-cast-t15 Inv-loop μ-loop
+cast-t15 c = omega arith
+
+add-t16 : tie.Need-add-t16 Inv-loop μ-loop
+add-t16 c = omega arith
+
+returns-4 : tie.Need-returns-4 Inv-loop μ-loop
+returns-4 c = first-done _ _ _ (omega arith) (c .before .before .before .if2 .left) (omega (arith, some (c .before .before))) (omega arith)
+
+add-next : tie.Need-add-next Inv-loop μ-loop
+add-next c = omega arith
+
 loop-holds : tie.Need-loop-holds Inv-loop μ-loop
-loop-holds c = (omega arith, begun _ _ _ (omega arith) (c .before .if2 .left))
+loop-holds c = (omega arith, first-more _ _ _ (omega arith) (c .before .before .before .if2 .left) (omega (arith, some (c .before .before))) (omega arith))
 
 shared-slice-read-byte : tie.Need-shared-slice-read-byte Inv-loop μ-loop
 shared-slice-read-byte c = omega arith
@@ -86,26 +123,26 @@ cast-value c = omega arith
 add-value : tie.Need-add-value Inv-loop μ-loop
 add-value c = omega arith
 
-returns-3 : tie.Need-returns-3 Inv-loop μ-loop
-returns-3 c = large _ _ _ _ _ (c .before .before .before .loop .inv .1) (omega arith) (omega arith)
+returns-5 : tie.Need-returns-5 Inv-loop μ-loop
+returns-5 c = large _ _ _ _ _ (c .before .before .before .loop .inv .1) (omega arith) (omega arith)
 
-add-next : tie.Need-add-next Inv-loop μ-loop
-add-next c = omega arith
+add-next-2 : tie.Need-add-next-2 Inv-loop μ-loop
+add-next-2 c = omega arith
 
-cast-t18 : tie.Need-cast-t18 Inv-loop μ-loop
-cast-t18 c = omega arith
+cast-t23 : tie.Need-cast-t23 Inv-loop μ-loop
+cast-t23 c = omega arith
 
-returns-4 : tie.Need-returns-4 Inv-loop μ-loop
-returns-4 c = done _ _ _ _ _ (c .before .before .before .before .loop .inv .1) (omega arith) (omega (arith, pow-pos (min (c .before .before .before .before .before .before .before .before .before .before .args .n) 32))) (omega arith)
+returns-6 : tie.Need-returns-6 Inv-loop μ-loop
+returns-6 c = done _ _ _ _ _ (c .before .before .before .before .loop .inv .1) (omega arith) (omega (arith, some (c .before .before .before .before .before .before .before))) (omega arith)
 
 loop-less : tie.Need-loop-less Inv-loop μ-loop
 loop-less c = omega arith
 
 loop-again : tie.Need-loop-again Inv-loop μ-loop
-loop-again c = (omega arith, more _ _ _ _ _ (c .before .before .before .before .loop .inv .1) (omega arith) (omega (arith, pow-pos (min (c .before .before .before .before .before .before .before .before .before .before .args .n) 32))) (omega arith))
+loop-again c = (omega arith, more _ _ _ _ _ (c .before .before .before .before .loop .inv .1) (omega arith) (omega (arith, some (c .before .before .before .before .before .before .before))) (omega arith))
 
-returns-5 : tie.Need-returns-5 Inv-loop μ-loop
-returns-5 c = cut _ _ _ _ _ (c .before .loop .inv .1) (omega arith)
+returns-7 : tie.Need-returns-7 Inv-loop μ-loop
+returns-7 c = cut _ _ _ _ _ (c .before .loop .inv .1) (omega arith)
 
 pub read-spec : {M : Type 1} → statement M
 read-spec =
@@ -114,18 +151,24 @@ read-spec =
     Inv-loop
     μ-loop
     returns
-    shared-slice-read-if2
+    shared-slice-read-first
     returns-2
     largest-requires
+    cast-low
+    returns-3
+    cast-t15
+    add-t16
+    returns-4
+    add-next
     loop-holds
     shared-slice-read-byte
     mul-value
     cast-value
     add-value
-    returns-3
-    add-next
-    cast-t18
-    returns-4
+    returns-5
+    add-next-2
+    cast-t23
+    returns-6
     loop-less
     loop-again
-    returns-5)
+    returns-7)
