@@ -42,9 +42,9 @@ above-digits c h =
 abbrev pub Digit : HexLine → ℕ → Type 0
 Digit line c = ¬ (c ≡ 35) × (¬ (line .half ≡ 17) × ¬ (digitValue c ≡ 16))
 
-module _ {ℓ} {X : Type ℓ} (room : ℕ) (line : HexLine) (c : ℕ) (comment same waits stored : X) where
+module _ {ℓ} {X : Type ℓ} (capacity : ℕ) (line : HexLine) (c : ℕ) (comment same waits stored : X) where
   abbrev after : X
-  after = afterCharacter room line c comment same waits stored
+  after = afterCharacter capacity line c comment same waits stored
 
   pub comment-begins : c ≡ 35 → comment ≡ after
   unfolding afterCharacter
@@ -58,15 +58,15 @@ module _ {ℓ} {X : Type ℓ} (room : ℕ) (line : HexLine) (c : ℕ) (comment s
   unfolding afterCharacter
   no-digit n m e = sym (select-false _ _ (ne-eqb _ _ n) ∙ select-false _ _ (ne-eqb _ _ m) ∙ select-true _ _ (eq-eqb _ _ e))
 
-  on-digit : Digit line c → after ≡ select (leb 16 (line .half)) waits (select (leb room (line .count)) same stored)
+  on-digit : Digit line c → after ≡ select (leb 16 (line .half)) waits (select (leb capacity (line .count)) same stored)
   unfolding afterCharacter
   on-digit d = select-false _ _ (ne-eqb _ _ (d .0)) ∙ select-false _ _ (ne-eqb _ _ (d .1 .0)) ∙ select-false _ _ (ne-eqb _ _ (d .1 .1))
 
   pub first-digit : Digit line c → 16 ≤ line .half → waits ≡ after
   first-digit d h = sym (on-digit d ∙ select-true _ _ (le-leb _ _ h))
 
-  pub no-room : Digit line c → line .half < 16 → room ≤ line .count → same ≡ after
-  no-room d h k = sym (on-digit d ∙ select-false _ _ (lt-leb _ _ h) ∙ select-true _ _ (le-leb _ _ k))
+  pub not-held : Digit line c → line .half < 16 → capacity ≤ line .count → same ≡ after
+  not-held d h k = sym (on-digit d ∙ select-false _ _ (lt-leb _ _ h) ∙ select-true _ _ (le-leb _ _ k))
 
-  pub second-digit : Digit line c → line .half < 16 → line .count < room → stored ≡ after
+  pub second-digit : Digit line c → line .half < 16 → line .count < capacity → stored ≡ after
   second-digit d h k = sym (on-digit d ∙ select-false _ _ (lt-leb _ _ h) ∙ select-false _ _ (lt-leb _ _ k))

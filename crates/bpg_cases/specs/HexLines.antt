@@ -14,18 +14,18 @@ abbrev pub lineAt : ℕ → ℕ → HexLine
 lineAt count half = record { count = count; half = half }
 
 -- What is done with a character: `#`, which is 35, begins a comment; a comment and what is no digit leave all as it is; a first digit
--- waits; the second is stored with it, if there is room.
-unfoldable pub afterCharacter {ℓ} : {X : Type ℓ} → (room : ℕ) → HexLine → ℕ → (comment same waits stored : X) → X
-afterCharacter room line c comment same waits stored =
+-- waits; the second is stored with it, if the buffer holds it.
+unfoldable pub afterCharacter {ℓ} : {X : Type ℓ} → (capacity : ℕ) → HexLine → ℕ → (comment same waits stored : X) → X
+afterCharacter capacity line c comment same waits stored =
     select (eqb c 35) comment
     (select (eqb (line .half) 17) same
     (select (eqb (digitValue c) 16) same
     (select (leb 16 (line .half)) waits
-    (select (leb room (line .count)) same stored))))
+    (select (leb capacity (line .count)) same stored))))
 
 abbrev pub lineAfter : ℕ → HexLine → ℕ → HexLine
-lineAfter room line c =
-    afterCharacter room line c (lineAt (line .count) 17) line (lineAt (line .count) (digitValue c)) (lineAt (line .count + 1) 16)
+lineAfter capacity line c =
+    afterCharacter capacity line c (lineAt (line .count) 17) line (lineAt (line .count) (digitValue c)) (lineAt (line .count + 1) 16)
 
 abbrev pub bytesAfter : List ℕ → HexLine → ℕ → List ℕ
 bytesAfter bytes line c =

@@ -13,7 +13,7 @@ ghost use Rattle.bpg_codec.specs.Buffer.{written, writtenEnd};
 ghost use Rattle.bpg_numbers.specs.BitNumbers.{expGolomb};
 ghost use Rattle.bpg_numbers.specs.BitBuffer.{empty, appended};
 
-// Room for 512 bits, which is more than a HEVC header has.
+// Space for 512 bits, which is more than a HEVC header has.
 pub struct BitBuffer {
     pub bytes: [u8; 64],
     pub len: BitPos,

@@ -47,7 +47,7 @@ pub fn read(region: &[u8], at: BytePos, n: u32) -> Number
         return Number::Refused(8, at);
     }
     if first < 128 {
-        return Number::Value(low as u32, BytePos(start + 1));
+        return Number::Value(first as u32, BytePos(start + 1));
     }
     let mut value = low;
     let mut next = start + 1;

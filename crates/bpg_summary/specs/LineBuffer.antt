@@ -5,7 +5,7 @@ use lib.ListN.{length, replicate}
 use Rattle.bpg_codec.specs.Buffer.{written, writtenEnd}
 use Rattle.bpg_summary.specs.declared.line_buffer.LineBuffer.{LineBuffer}
 
--- how many bytes it has room for
+-- how many bytes it holds
 abbrev pub lineSize : ℕ
 lineSize = 160
 

@@ -3,7 +3,7 @@ use mathlib.Core.Path.{_≡_, sym, ap, _∙_}
 use Prim.Native.Nat.{_+_, _*_}
 use lib.ListN.{length, set}
 use Rattle.bpg_cases.specs.HexLines.{digitValue, lineAt}
-use Rattle.bpg_cases.proofs.HexLaws.{Digit, comment-begins, in-comment, no-digit, first-digit, no-room, second-digit}
+use Rattle.bpg_cases.proofs.HexLaws.{Digit, comment-begins, in-comment, no-digit, first-digit, not-held, second-digit}
 use borrow.Author.Needs.{needs}
 use Rattle.bpg_cases.proofs.hex.extend.Statement.{statement}
 use Rattle.bpg_cases.proofs.hex.extend.Tie as tie
@@ -51,8 +51,8 @@ returns-5 : tie.Need-returns-5
 returns-5 c =
     let l = c .before .before in
     let a = start l .args in (
-      no-room (length (a .bytes .now)) (a .line) (a .c) _ _ _ _ (digit l) (c .before .if4 .left) (c .if5 .taken),
-      no-room (length (a .bytes .now)) (a .line) (a .c) _ _ _ _ (digit l) (c .before .if4 .left) (c .if5 .taken),
+      not-held (length (a .bytes .now)) (a .line) (a .c) _ _ _ _ (digit l) (c .before .if4 .left) (c .if5 .taken),
+      not-held (length (a .bytes .now)) (a .line) (a .c) _ _ _ _ (digit l) (c .before .if4 .left) (c .if5 .taken),
     )
 
 mul-bytes : tie.Need-mul-bytes

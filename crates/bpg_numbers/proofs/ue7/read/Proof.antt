@@ -65,8 +65,10 @@ module _ (n start : ℕ) (region : List ℕ) where
     first-large : 2 ^ n ≤ getD region start 0 % 128 → error 8 start ≡ located all
     first-large k = large 0 start (begun h e) h (omega arith)
 
-    first-done : getD region start 0 % 128 < 2 ^ n → getD region start 0 < 128 → ok (getD region start 0 % 128, start + 1) ≡ located all
-    first-done k l = ap (λ (v : ℕ). ok (v, start + 1)) (sym low-is) ∙ done 0 start (begun h e) h (omega arith) l
+    first-done : getD region start 0 % 128 < 2 ^ n → getD region start 0 < 128 → ok (getD region start 0, start + 1) ≡ located all
+    first-done k l =
+        let is : getD region start 0 ≡ 0 * 128 + getD region start 0 % 128 = omega arith in
+        ap (λ (v : ℕ). ok (v, start + 1)) is ∙ done 0 start (begun h e) h (omega arith) l
 
     first-more : getD region start 0 % 128 < 2 ^ n → 128 ≤ getD region start 0
         → all ≡ ue7Rest n start (getD region start 0 % 128) (start + 1) (drop (start + 1) region)
