@@ -29,16 +29,6 @@ module _ (format space : ℕ) where
   abbrev pub spaceAllowed : Bool
   spaceAllowed = leb space 4 && (not (eqb format 0) || eqb space 0)
 
-  pub space-large : 4 < space → false ≡ spaceAllowed
-  space-large a = rw (lt-leb _ _ a)
-
-  module _ (small : space ≤ 4) where
-    pub not-gray : format ≢ 0 → true ≡ spaceAllowed
-    not-gray a = rw (le-leb _ _ small, ne-eqb _ _ a)
-
-    pub gray : format ≡ 0 → eqb space 0 ≡ spaceAllowed
-    gray a = rw (le-leb _ _ small, eq-eqb _ _ a)
-
 -- ---- before the entries
 
 module _ (r : Record) (source : List ℕ) where

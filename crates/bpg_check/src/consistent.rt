@@ -3,6 +3,7 @@ use crate::absent;
 use crate::entries;
 use bpg_entries::animation;
 use bpg_format::Record;
+use bpg_format::has_alpha;
 ghost use mathlib.Core.Path.{_≡_};
 ghost use mathlib.Core.Bool.{_||_};
 ghost use mathlib.Core.List.{List, map};
@@ -38,20 +39,11 @@ fn loop_fits(record: Record) -> bool
     entries::same_loop(record, none)
 }
 
-pub fn has_alpha(record: Record) -> bool
-    ensures { λ r. ⌜ r ≡ («record» .«alpha1_flag» || «record» .«alpha2_flag») ⌝ }
-{
-    if record.alpha1_flag {
-        return true;
-    }
-    record.alpha2_flag
-}
-
 // No alpha header without alpha.
 fn alpha_fits(record: Record) -> bool
     ensures { λ r. ⌜ r ≡ ((«record» .«alpha1_flag» || «record» .«alpha2_flag») || headerZero (getD («record» .headers) 0 zeroHeader)) ⌝ }
 {
-    if has_alpha(record) {
+    if has_alpha(record.alpha1_flag, record.alpha2_flag) {
         return true;
     }
     let alpha = record.headers[0];

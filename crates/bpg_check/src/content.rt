@@ -1,30 +1,18 @@
 // The rules in file order.
-use crate::consistent;
 use crate::entries;
 use crate::header;
 use bpg_format::Record;
+use bpg_format::color_space_allowed;
+use bpg_format::has_alpha;
 ghost use mathlib.Core.Path.{_≡_};
-ghost use mathlib.Core.Bool.{true, not, _&&_, _||_};
+ghost use mathlib.Core.Bool.{true, not, _||_};
 ghost use mathlib.Core.List.{List, map};
 ghost use Prim.Native.Nat.{ℕ, _≤_};
-ghost use lib.Dec.{leb, eqb};
 ghost use Rattle.bpg_format.specs.Limits.{maxEntries};
 ghost use Rattle.bpg_format.specs.Rules.{hasLoop};
 ghost use Rattle.bpg_format.specs.Records.{extensionOf, usedEntries, contentOf};
 ghost use Rattle.bpg_format.specs.Write.{entriesInSource, checkContent};
 ghost use Rattle.bpg_check.specs.Check.{statusOf, checkPicture, checkAlpha, checkHeaders};
-
-fn color_space_allowed(format: u8, space: u8) -> bool
-    ensures { λ r. ⌜ r ≡ (leb space 4 && (not (eqb format 0) || eqb space 0)) ⌝ }
-{
-    if 4 < space {
-        return false;
-    }
-    if format != 0 {
-        return true;
-    }
-    space == 0
-}
 
 // What stands before the extension block.
 fn picture_status(record: Record) -> u8
@@ -62,7 +50,7 @@ fn control_fits(record: Record) -> bool
 fn alpha_status(record: Record, depth: u8) -> u8
     ensures { λ r. ⌜ r ≡ statusOf (checkAlpha depth «record») ⌝ }
 {
-    if !consistent::has_alpha(record) {
+    if !has_alpha(record.alpha1_flag, record.alpha2_flag) {
         return 0;
     }
     let alpha = record.headers[0];

@@ -12,7 +12,7 @@ use Rattle.bpg_codec.proofs.Bits.{length-bits}
 use Rattle.bpg_numbers.specs.BitNumbers.{expGolombBits}
 use Rattle.bpg_numbers.proofs.BitNumberLaws.{top, expGolomb-size, expGolomb-none}
 use Rattle.bpg_numbers.specs.declared.bit_buffer.BitBuffer.{BitBuffer}
-use Rattle.bpg_numbers.specs.BitBuffer.{empty}
+use Rattle.bpg_numbers.specs.BitBuffer.{empty, appended}
 use Rattle.bpg_numbers.proofs.BitBufferLaws.{holds-bytes}
 use Rattle.bpg_format.specs.declared.record.Header.{Header}
 use Rattle.bpg_format.specs.Syntax.{pcmBits, spsExtensionBits, headerBits}
@@ -70,9 +70,9 @@ unfolding headerBits
 groups-bits h = simp append-assoc
 
 pub header-held : (h : Header) → length (h .«range_flags») ≡ 9 → {b r : BitBuffer} → b ≡ empty → Added b (groups h) r
-    → (r .len .0 ≡ length (headerBits h)) × ((r .len .0 ≤ 471) × (take (bytesFor (r .len .0)) (r .bytes) ≡ padded (headerBits h)))
+    → (r .len .0 ≡ length (headerBits h)) × ((r .len .0 ≤ 471) × ((take (bytesFor (r .len .0)) (r .bytes) ≡ padded (headerBits h)) × (r ≡ appended empty (headerBits h))))
 header-held h nine {b} {r} e a =
     let n = header-bits-most h nine in
     let s : Added empty (headerBits h) r = rw (← e, ← groups-bits h) a in
     let k = added-to-empty s (omega arith) in
-    (k .len-is, (omega (arith, k .len-is), holds-bytes r (headerBits h) k (omega arith)))
+    (k .len-is, (omega (arith, k .len-is), (holds-bytes r (headerBits h) k (omega arith), s .fits (omega arith))))

@@ -7,14 +7,14 @@ ghost use Rattle.bpg_codec.specs.Select.{select};
 ghost use Rattle.bpg_format.specs.Syntax.{pcmBits, spsExtensionBits};
 ghost use Rattle.bpg_encode.specs.Adding.{Added, sizeBits};
 
-pub fn add_flag(b: BitBuffer, flag: bool) -> BitBuffer
+pub(crate) fn add_flag(b: BitBuffer, flag: bool) -> BitBuffer
     ensures { λ r. ⌜ Added b (flag ∷ []) r ⌝ }
 {
     bit_buffer::append(b, 1, flag as u64)
 }
 
 // The block sizes and the depth of the transform hierarchy.
-pub fn add_sizes(b: BitBuffer, h: Header) -> BitBuffer
+pub(crate) fn add_sizes(b: BitBuffer, h: Header) -> BitBuffer
     ensures { λ r. ⌜ Added b (sizeBits h) r ⌝ }
 {
     let min_cb = bit_buffer::append_exp_golomb(b, h.log2_min_luma_coding_block_size_minus3);
@@ -25,7 +25,7 @@ pub fn add_sizes(b: BitBuffer, h: Header) -> BitBuffer
 }
 
 // The PCM fields, where their flag is set.
-pub fn add_pcm(b: BitBuffer, h: Header) -> BitBuffer
+pub(crate) fn add_pcm(b: BitBuffer, h: Header) -> BitBuffer
     ensures { λ r. ⌜ Added b (select (h .«pcm_enabled_flag») (pcmBits h) []) r ⌝ }
 {
     if !h.pcm_enabled_flag {
@@ -39,7 +39,7 @@ pub fn add_pcm(b: BitBuffer, h: Header) -> BitBuffer
 }
 
 // The SPS extension's flag and seven bits, where the extension is there.
-pub fn add_sps(b: BitBuffer, h: Header) -> BitBuffer
+pub(crate) fn add_sps(b: BitBuffer, h: Header) -> BitBuffer
     ensures { λ r. ⌜ Added b (select (h .«sps_extension_present_flag») (spsExtensionBits h) []) r ⌝ }
 {
     if !h.sps_extension_present_flag {

@@ -8,6 +8,7 @@ ghost use mathlib.Core.Path.{_≡_};
 ghost use Prim.Native.Nat.{_≤_};
 ghost use lib.ListN.{length, take};
 ghost use Rattle.bpg_codec.specs.Bits.{bytesFor, padded};
+ghost use Rattle.bpg_numbers.specs.BitBuffer.{empty, appended};
 ghost use Rattle.bpg_format.specs.Syntax.{headerBits};
 
 // The header's bits. A number that does not fit its field gives its low bits, and 2^32 - 1, which has no ue(v) code, none.
@@ -15,6 +16,7 @@ pub fn encode(header: Header) -> BitBuffer
     ensures { λ r. ⌜ r .len .0 ≡ length (headerBits header) ⌝ }
     ensures { λ r. ⌜ r .len .0 ≤ 471 ⌝ }
     ensures { λ r. ⌜ take (bytesFor (r .len .0)) (r .bytes) ≡ padded (headerBits header) ⌝ }
+    ensures { λ r. ⌜ r ≡ appended empty (headerBits header) ⌝ }
 {
     let sizes = fields::add_sizes(bit_buffer::none(), header);
     let offset = fields::add_flag(sizes, header.sample_adaptive_offset_enabled_flag);

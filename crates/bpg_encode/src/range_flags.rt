@@ -19,7 +19,7 @@ fn add_all(b: BitBuffer, h: Header) -> BitBuffer
 }
 
 // The flags, where the SPS extension says that they are there.
-pub fn add(b: BitBuffer, h: Header) -> BitBuffer
+pub(crate) fn add(b: BitBuffer, h: Header) -> BitBuffer
     ensures { λ r. ⌜ Added b (select (h .«sps_range_extension_flag») (h .«range_flags») []) r ⌝ }
 {
     if h.sps_range_extension_flag {

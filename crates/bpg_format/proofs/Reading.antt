@@ -1,5 +1,5 @@
 -- A file is read as a content exactly when it is the syntax's file of that content and the content keeps the rules. Assumes nothing.
-use mathlib.Core.Path.{_≡_, refl, sym, ap, _∙_, subst}
+use mathlib.Core.Path.{_≡_, refl, sym, ap, _∙_}
 use mathlib.Core.List.{List}
 use mathlib.Core.Logic.{_≢_}
 use Prim.Native.Nat.{ℕ}
@@ -28,9 +28,6 @@ pub read-is : (f : List ℕ) → All Byte f → (c : Content) → readContent f 
 read-is f h c e =
     let s = file-lawful .encodes 0 0 f h c (content-chain f ∙ e) in
     (file-sound c (s .0), s .1 ∙ file-encode c)
-
-pub file-bytes : (c : Content) → Rules c → All Byte (fileOf c)
-file-bytes c r = subst (All Byte) (file-encode c) (file-lawful .tokens c (file-full c r))
 
 -- one content a file
 pub content-unique : (c d : Content) → Rules c → Rules d → fileOf c ≡ fileOf d → c ≡ d

@@ -13,6 +13,7 @@ pub use record::MAX_ENTRIES;
 pub use record::MAX_FILE;
 pub use record::Range;
 pub use record::Record;
+pub use record::color_space_allowed;
 pub use record::has_alpha;
 pub use record::zero_entry;
 pub use record::zero_header;

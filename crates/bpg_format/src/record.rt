@@ -1,6 +1,7 @@
 // The record: every field of a file as it is coded, under the names of the BPG specification, with ranges in place of bytes.
 ghost use mathlib.Core.Path.{_≡_};
-ghost use mathlib.Core.Bool.{_||_};
+ghost use mathlib.Core.Bool.{not, _&&_, _||_};
+ghost use lib.Dec.{leb, eqb};
 ghost use Rattle.bpg_format.specs.Zero.{zeroHeader, zeroEntry, zeroRecord};
 
 // House rules of document 01.
@@ -74,6 +75,19 @@ pub fn has_alpha(alpha1: bool, alpha2: bool) -> bool
         return true;
     }
     alpha2
+}
+
+// Refusal 6: a colour space is 0 to 4, and 0 in a gray picture.
+pub fn color_space_allowed(pixel_format: u8, color_space: u8) -> bool
+    ensures { λ r. ⌜ r ≡ (leb «color_space» 4 && (not (eqb «pixel_format» 0) || eqb «color_space» 0)) ⌝ }
+{
+    if 4 < color_space {
+        return false;
+    }
+    if pixel_format != 0 {
+        return true;
+    }
+    color_space == 0
 }
 
 pub fn zero_entry() -> Entry

@@ -1,8 +1,7 @@
 // Magic, byte 4 and byte 5.
+use bpg_format::color_space_allowed;
 ghost use mathlib.Core.Path.{_≡_};
-ghost use mathlib.Core.Bool.{not, _&&_, _||_};
 ghost use Prim.Native.Nat.{_≤_};
-ghost use lib.Dec.{leb, eqb};
 ghost use lib.ListN.{length, take};
 ghost use Rattle.bpg_codec.specs.Parts.{same};
 ghost use Rattle.bpg_format.specs.Syntax.{magic};
@@ -54,19 +53,6 @@ fn has_magic(file: &[u8]) -> bool
         return false;
     }
     file[3] == 0xfb
-}
-
-// A colour space is 0 to 4, and 0 in a gray picture.
-fn color_space_allowed(pixel_format: u8, color_space: u8) -> bool
-    ensures { λ r. ⌜ r ≡ (leb «color_space» 4 && (not (eqb «pixel_format» 0) || eqb «color_space» 0)) ⌝ }
-{
-    if 4 < color_space {
-        return false;
-    }
-    if pixel_format != 0 {
-        return true;
-    }
-    color_space == 0
 }
 
 pub fn read(file: &[u8]) -> Flags

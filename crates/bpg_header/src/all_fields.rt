@@ -17,7 +17,7 @@ ghost use Rattle.bpg_format.specs.FileCodec.{headerFields};
 ghost use Rattle.bpg_header.specs.AllFields.{missingFields, fieldsOutcome, restAt};
 
 // The header and the position after its fields, or that one is missing.
-pub struct Fields {
+pub(crate) struct Fields {
     pub found: bool,
     pub header: Header,
     pub next: BitPos,
@@ -35,7 +35,7 @@ fn missing() -> Fields
 }
 
 // The fields from strong intra smoothing on; `header` has those before them.
-pub fn read_rest(region: &[u8], at: BitPos, header: Header) -> Fields
+pub(crate) fn read_rest(region: &[u8], at: BitPos, header: Header) -> Fields
     ensures { λ r. ⌜ ((i : ℕ) → fieldsOutcome i r ≡ restAt (regionBits (now (region .entry))) header i (at .0)) ⌝ }
 {
     match fields::read_flag(region, at) {
@@ -66,7 +66,7 @@ pub fn read_rest(region: &[u8], at: BitPos, header: Header) -> Fields
 }
 
 // All fields from `at` on.
-pub fn read(region: &[u8], at: BitPos) -> Fields
+pub(crate) fn read(region: &[u8], at: BitPos) -> Fields
     ensures { λ r. ⌜ ((i : ℕ) → fieldsOutcome i r ≡ decodeAt (regionBits (now (region .entry))) headerFields i (at .0)) ⌝ }
 {
     match fields::read_sizes(region, at) {

@@ -11,36 +11,36 @@ ghost use Rattle.bpg_format.specs.FileCodec.{oneBit, optional, sizeFields, pcmF
 ghost use Rattle.bpg_header.specs.Fields.{codePair, depthPair, flagOutcome, pairOutcome, sizesOutcome, pcmOutcome, spsOutcome};
 
 // A flag and the position after it, or that it is missing; and so on for each group.
-pub enum Flag {
+pub(crate) enum Flag {
     Value(bool, BitPos),
     Missing,
 }
 
 // Two fields.
-pub enum Pair {
+pub(crate) enum Pair {
     Value(u32, u32, BitPos),
     Missing,
 }
 
 // The block sizes, in the order of the file.
-pub enum Sizes {
+pub(crate) enum Sizes {
     Value(u32, u32, u32, u32, u32, BitPos),
     Missing,
 }
 
 // The PCM fields, in the order of the file.
-pub enum Pcm {
+pub(crate) enum Pcm {
     Value(u32, u32, u32, u32, bool, BitPos),
     Missing,
 }
 
 // The range extension flag and the seven bits of the SPS extension.
-pub enum Sps {
+pub(crate) enum Sps {
     Value(bool, u32, BitPos),
     Missing,
 }
 
-pub fn read_flag(region: &[u8], at: BitPos) -> Flag
+pub(crate) fn read_flag(region: &[u8], at: BitPos) -> Flag
     ensures { λ r. ⌜ ((i : ℕ) → flagOutcome i r ≡ decodeAt (regionBits (now (region .entry))) oneBit i (at .0)) ⌝ }
 {
     match bits::read(region, at, 1) {
@@ -50,7 +50,7 @@ pub fn read_flag(region: &[u8], at: BitPos) -> Flag
 }
 
 // A smallest size and its distance from the largest.
-pub fn read_codes(region: &[u8], at: BitPos) -> Pair
+pub(crate) fn read_codes(region: &[u8], at: BitPos) -> Pair
     ensures { λ r. ⌜ ((i : ℕ) → pairOutcome i r ≡ decodeAt (regionBits (now (region .entry))) codePair i (at .0)) ⌝ }
 {
     match exp_golomb::read(region, at) {
@@ -62,7 +62,7 @@ pub fn read_codes(region: &[u8], at: BitPos) -> Pair
     }
 }
 
-pub fn read_sizes(region: &[u8], at: BitPos) -> Sizes
+pub(crate) fn read_sizes(region: &[u8], at: BitPos) -> Sizes
     ensures { λ r. ⌜ ((i : ℕ) → sizesOutcome i r ≡ decodeAt (regionBits (now (region .entry))) sizeFields i (at .0)) ⌝ }
 {
     match read_codes(region, at) {
@@ -85,7 +85,7 @@ pub fn read_sizes(region: &[u8], at: BitPos) -> Sizes
 }
 
 // The two PCM bit depths.
-pub fn read_depths(region: &[u8], at: BitPos) -> Pair
+pub(crate) fn read_depths(region: &[u8], at: BitPos) -> Pair
     ensures { λ r. ⌜ ((i : ℕ) → pairOutcome i r ≡ decodeAt (regionBits (now (region .entry))) depthPair i (at .0)) ⌝ }
 {
     match bits::read(region, at, 4) {
@@ -97,7 +97,7 @@ pub fn read_depths(region: &[u8], at: BitPos) -> Pair
     }
 }
 
-pub fn read_pcm(region: &[u8], at: BitPos) -> Pcm
+pub(crate) fn read_pcm(region: &[u8], at: BitPos) -> Pcm
     ensures { λ r. ⌜ ((i : ℕ) → pcmOutcome i r ≡ decodeAt (regionBits (now (region .entry))) pcmFields i (at .0)) ⌝ }
 {
     match read_depths(region, at) {
@@ -113,7 +113,7 @@ pub fn read_pcm(region: &[u8], at: BitPos) -> Pcm
 }
 
 // The PCM fields where they are there, and zeros where they are not.
-pub fn read_optional_pcm(region: &[u8], at: BitPos, present: bool) -> Pcm
+pub(crate) fn read_optional_pcm(region: &[u8], at: BitPos, present: bool) -> Pcm
     ensures { λ r. ⌜ ((i : ℕ) → pcmOutcome i r ≡ decodeAt (regionBits (now (region .entry))) (optional present pcmFields noPcm) i (at .0)) ⌝ }
 {
     if present {
@@ -122,7 +122,7 @@ pub fn read_optional_pcm(region: &[u8], at: BitPos, present: bool) -> Pcm
     Pcm::Value(0, 0, 0, 0, false, at)
 }
 
-pub fn read_sps(region: &[u8], at: BitPos) -> Sps
+pub(crate) fn read_sps(region: &[u8], at: BitPos) -> Sps
     ensures { λ r. ⌜ ((i : ℕ) → spsOutcome i r ≡ decodeAt (regionBits (now (region .entry))) spsFields i (at .0)) ⌝ }
 {
     match read_flag(region, at) {
@@ -135,7 +135,7 @@ pub fn read_sps(region: &[u8], at: BitPos) -> Sps
 }
 
 // The SPS extension where it is there, and zeros where it is not.
-pub fn read_optional_sps(region: &[u8], at: BitPos, present: bool) -> Sps
+pub(crate) fn read_optional_sps(region: &[u8], at: BitPos, present: bool) -> Sps
     ensures { λ r. ⌜ ((i : ℕ) → spsOutcome i r ≡ decodeAt (regionBits (now (region .entry))) (optional present spsFields noSps) i (at .0)) ⌝ }
 {
     if present {

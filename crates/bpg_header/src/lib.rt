@@ -1,8 +1,8 @@
 // The HEVC header of a BPG file: its fields, and the rules that they keep.
 mod all_fields;
-pub mod fields;
+mod fields;
 pub mod header;
 pub mod headers;
-pub mod range_flags;
+mod range_flags;
 pub mod rules;
 mod trailing;

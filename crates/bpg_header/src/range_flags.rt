@@ -15,7 +15,7 @@ ghost use Rattle.bpg_format.specs.FileCodec.{optional};
 ghost use Rattle.bpg_header.specs.Fields.{nineOutcome, withFlags};
 
 // The flags as a number of nine bits where they are there, and 0 where they are not.
-pub fn read(region: &[u8], at: BitPos, present: bool) -> BitNumber
+pub(crate) fn read(region: &[u8], at: BitPos, present: bool) -> BitNumber
     ensures { λ r. ⌜ ((i : ℕ) → nineOutcome i r ≡ decodeAt (regionBits (now (region .entry))) (optional present (fixed Bit 9 15 atItem) (replicate 9 false)) i (at .0)) ⌝ }
 {
     if present {
@@ -25,7 +25,7 @@ pub fn read(region: &[u8], at: BitPos, present: bool) -> BitNumber
 }
 
 // The header with the bits of a number of nine bits as its flags.
-pub fn store(header: Header, value: u32) -> Header
+pub(crate) fn store(header: Header, value: u32) -> Header
     ensures { λ r. ⌜ r ≡ withFlags header (bitsOf 9 value) ⌝ }
 {
     let mut flags = [false; 9];

@@ -7,7 +7,7 @@ ghost use Rattle.bpg_numbers.specs.BitNumbers.{regionBits};
 ghost use Rattle.bpg_header.specs.Headers.{isPadding};
 
 // From `at` on there are 0 to 7 bits, all zero: the low bits of the byte that `at` stands in.
-pub fn is_padding(region: &[u8], at: BitPos) -> bool
+pub(crate) fn is_padding(region: &[u8], at: BitPos) -> bool
     ensures { λ r. ⌜ r ≡ isPadding (drop (at .0) (regionBits (now (region .entry)))) ⌝ }
 {
     let end = bits::count(region);

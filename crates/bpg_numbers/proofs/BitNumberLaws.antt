@@ -142,18 +142,6 @@ expGolomb-one-field v h =
     let rem : (v + 1) % 2 ^ prefixZeros v ≡ v + 1 - 2 ^ prefixZeros v = subst (λ (n : ℕ). n % 2 ^ prefixZeros v ≡ v + 1 - 2 ^ prefixZeros v) s (low′ 1 z (omega (arith, t .high, t .low))) in
     expGolomb-bits v h ∙ sym (rw (n, bits-append z (suc z) (v + 1), q, bits-zero z) (ap (λ (l : List Bool). zeros z ++ l) (leading-one z (v + 1) low one rem)))
 
--- a larger number is not shorter
-pub expGolomb-grows : (v w : ℕ) → v ≤ w → w < 2 ^ 32 - 1 → length (expGolombBits v) ≤ length (expGolombBits w)
-expGolomb-grows v w h k =
-    let s = top v (omega arith) .0 in
-    let t = top w k .0 in
-    omega (
-      arith,
-      expGolomb-size v (omega arith),
-      expGolomb-size w k,
-      either-way (prefixZeros v) (prefixZeros w) (λ g. g) (λ g. absurd (omega (arith, s .low, t .high, pow-mono {i = suc (prefixZeros w)} {j = prefixZeros v} g))),
-    )
-
 expGolomb-decodes : (v : ℕ) → v < 2 ^ 32 - 1 → (i p : ℕ) (r : List Bool) → expGolomb .decode i p (expGolombBits v ++ r) ≡ ok (v, p + length (expGolombBits v), r)
 expGolomb-decodes v h i p r =
     let z = prefixZeros v in

@@ -33,16 +33,6 @@ pub(crate) fn bit_inside(region: &[u8], k: usize) -> u64
     (wide(region[k / 8]) >> (7 - k % 8)) % 2
 }
 
-// Bit k of the bytes as a number: 0 past them.
-pub fn bit(region: &[u8], k: usize) -> u64
-    ensures { λ r. ⌜ r ≡ bitOf (getD (unpack (now (region .entry))) k false) ⌝ }
-{
-    if region.len() <= k / 8 {
-        return 0;
-    }
-    bit_inside(region, k)
-}
-
 // The next n bits as a number; n above 32 counts as 32.
 pub fn read(region: &[u8], at: BitPos, n: u32) -> BitNumber
     ensures { λ r. ⌜ ((i : ℕ) → bitOutcome i r ≡ located (unsigned (min n 32) .decode i (at .0) (drop (at .0) (regionBits (now (region .entry)))))) ⌝ }

@@ -58,7 +58,7 @@ module _ (c : tie.After-encode2) where
       let e = header-at (r .headers) 0 two (omega arith) in
       record {
         len-is = c .before .encode .ensures .0 ∙ ap (λ (h : Header). length (headerBits h)) e;
-        bytes-are = c .before .encode .ensures .1 .1 ∙ ap (λ (h : Header). padded (headerBits h)) e;
+        bytes-are = c .before .encode .ensures .1 .1 .0 ∙ ap (λ (h : Header). padded (headerBits h)) e;
       }
 
   color-encoded : Encoded (getD (r .headers) 1 zeroHeader) (c .encode2 .result)
@@ -66,7 +66,7 @@ module _ (c : tie.After-encode2) where
       let e = header-at (r .headers) 1 two (omega arith) in
       record {
         len-is = c .encode2 .ensures .0 ∙ ap (λ (h : Header). length (headerBits h)) e;
-        bytes-are = c .encode2 .ensures .1 .1 ∙ ap (λ (h : Header). padded (headerBits h)) e;
+        bytes-are = c .encode2 .ensures .1 .1 .0 ∙ ap (λ (h : Header). padded (headerBits h)) e;
       }
 
   narrow : (c .before .encode .result .len .0 ≤ 512) × (c .encode2 .result .len .0 ≤ 512)

@@ -1,7 +1,7 @@
--- `flags::color_space_allowed` meets its contract. Assumes nothing.
+-- `record::color_space_allowed` meets its contract. Assumes nothing.
 use borrow.Author.Tests.{le-leb, lt-leb, eq-eqb, ne-eqb}
-use Rattle.bpg_head.proofs.flags.color_space_allowed.Statement.{statement}
-use Rattle.bpg_head.proofs.flags.color_space_allowed.Tie as tie
+use Rattle.bpg_format.proofs.record.color_space_allowed.Statement.{statement}
+use Rattle.bpg_format.proofs.record.color_space_allowed.Tie as tie
 
 returns : tie.Need-returns
 returns c = rw (lt-leb (c .before .args .color-space) 4 (c .if1 .taken))
