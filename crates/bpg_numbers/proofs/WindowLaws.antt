@@ -2,17 +2,16 @@
 use mathlib.Core.Path.{_≡_, refl, sym, ap, ap₂, _∙_}
 use mathlib.Core.Bool.{Bool}
 use mathlib.Core.List.{List, [], _∷_, _++_, append-assoc}
-use mathlib.Core.Logic.{_↔_}
 use Prim.Native.Nat.{ℕ, suc, _+_, _-_, _*_, _/_, _%_, _^_, _≤_, _<_}
 use native.Mathlib.Nat.{add-zero, le-div-iff-mul-le}
 use native.Mathlib.Omega.{arith}
 use lib.Count.{leadingZeros, leading-top}
-use lib.ListN.{length, take, drop, getD, replicate, length-append, length-take, length-drop, length-replicate, replicate-append-replicate, take-append-drop}
+use lib.ListN.{length, take, drop, getD, replicate, length-append, length-take, length-drop, take-append-drop}
 use lib.Pow.{pow-pos, pow-mono, pow-add, shr-lt}
 use lib.Seq.{drop-nil, take-at, drop-at, take-add, take-append-le, drop-append-le, drop-drop, getD-drop, length-take-le}
 use Rattle.bpg_codec.specs.Outcome.{ok, located}
 use Rattle.bpg_codec.specs.Bits.{number, bits, zeros, unpack}
-use Rattle.bpg_codec.proofs.Lists.{either-way, take-drop, take-replicate, drop-replicate}
+use Rattle.bpg_codec.proofs.Lists.{either-way, take-replicate, drop-replicate}
 use Rattle.bpg_codec.proofs.Bits.{length-bits, numberFrom-bits, bits-number, bits-append, bits-mod, unpack-zeros, unpack-append, unpack-drop, unpack-take, length-unpack}
 use Rattle.bpg_numbers.specs.BitNumbers.{regionBits, windowAt, prefixZeros, expGolombBits, expGolomb}
 use Rattle.bpg_numbers.proofs.BitNumberLaws.{Top, top, top-unique, expGolomb-one-field, expGolomb-lawful}
