@@ -1,0 +1,3 @@
+-- Laws of the cursor.
+pub mod CursorLaws
+pub mod Lent

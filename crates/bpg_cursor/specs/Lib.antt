@@ -1,0 +1,2 @@
+-- The cursor over a file's entries.
+pub mod Cursors

@@ -1,0 +1,9 @@
+// A cursor over the entries of a file (document 01: the walker).
+mod cursor;
+mod step;
+
+pub use cursor::Cursor;
+pub use cursor::new;
+pub use cursor::next;
+pub use cursor::resume;
+pub use step::Step;
