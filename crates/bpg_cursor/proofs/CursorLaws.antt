@@ -1,5 +1,5 @@
 -- What a cursor yields, step by step, and that these are the file's entries in order. Assumes nothing.
-use mathlib.Core.Path.{_≡_, refl, sym, ap, _∙_, subst}
+use mathlib.Core.Path.{_≡_, sym, ap, _∙_, subst}
 use mathlib.Core.Logic.{_≢_}
 use mathlib.Core.List.{List}
 use Prim.Native.Nat.{ℕ, zero, suc, _+_, _≤_, _<_, min}
@@ -23,8 +23,7 @@ use Rattle.bpg_format.proofs.Requirements.{refusals, reading}
 use Rattle.bpg_reader.specs.declared.parts.EntryAt.{EntryAt}
 use Rattle.bpg_reader.specs.Entries.{entryAnswer}
 use Rattle.bpg_cursor.specs.declared.cursor.Cursor.{Cursor}
-use Rattle.bpg_cursor.specs.declared.step.Step.{Step}
-use Rattle.bpg_cursor.specs.Cursors.{entryCount, nextIndex, stepAt, start, yielded, advanced, after, InOrder}
+use Rattle.bpg_cursor.specs.Cursors.{entryCount, nextIndex, stepAt, yielded, advanced, after, InOrder}
 
 -- ---- one step
 
@@ -56,11 +55,11 @@ module _ (f : List ℕ) (k : ℕ) where
   step : (a : EntryAt) (n : ℕ) → a ≡ entryAnswer f k → n ≡ nextIndex f k → record { answer = a; next = n } ≡ stepAt f k
   step a n e d = λ i. record { answer = e i; next = d i }
 
-  pub step-found : (a : EntryAt) (e : Entry) → a ≡ entryAnswer f k → a ≡ EntryAt.Found e → record { answer = a; next = k + 1 } ≡ stepAt f k
-  step-found a e h d = step a (k + 1) h (sym (next-more (found-below e (sym d ∙ h))))
+  pub step-found : (a : EntryAt) (e : Entry) (n : ℕ) → a ≡ entryAnswer f k → a ≡ EntryAt.Found e → n ≡ k + 1 → record { answer = a; next = n } ≡ stepAt f k
+  step-found a e n h d m = step a n h (m ∙ sym (next-more (found-below e (sym d ∙ h))))
 
-  pub step-absent : (a : EntryAt) → a ≡ entryAnswer f k → a ≡ EntryAt.Absent → record { answer = a; next = k } ≡ stepAt f k
-  step-absent a h d = step a k h (sym (next-same (absent-past (sym d ∙ h))))
+  pub step-absent : (a : EntryAt) (n : ℕ) → a ≡ entryAnswer f k → a ≡ EntryAt.Absent → n ≡ k → record { answer = a; next = n } ≡ stepAt f k
+  step-absent a n h d m = step a n h (m ∙ sym (next-same (absent-past (sym d ∙ h))))
 
 -- ---- a walk
 

@@ -1,3 +1,3 @@
 -- Laws of the cursor.
 pub mod CursorLaws
-pub mod Lent
+pub mod Held

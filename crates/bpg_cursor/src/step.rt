@@ -16,10 +16,10 @@ pub fn step_at(file: &[u8], index: usize) -> Step
 {
     let answer = entry_at(file, index);
     match answer {
-        EntryAt::Found(_) => Step {
-            answer,
-            next: index + 1,
-        },
+        EntryAt::Found(_) => {
+            let next = index + 1;
+            Step { answer, next }
+        }
         EntryAt::Absent => Step {
             answer,
             next: index,

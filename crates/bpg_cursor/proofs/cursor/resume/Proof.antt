@@ -1,4 +1,4 @@
--- `cursor::resume` meets its contract: a walk of its MIR, by hand. A cursor is made in a local, lent to `next`, and comes back (`Lent.antt`); its index then goes into the result, beside what `next` yielded. All that the proof knows of `next` is that it meets its contract.
+-- `cursor::resume` meets its contract: a walk of its MIR, by hand. A cursor is made in a local, lent to `next`, and comes back (`Held.antt`); its index then goes into the result, beside what `next` yielded. All that the proof knows of `next` is that it meets its contract.
 -- Assumes nothing.
 use mathlib.Core.Path.{_≡_, refl, ap, subst}
 use Prim.Native.Nat.{ℕ, _<_, _^_}
@@ -50,7 +50,7 @@ use Rattle.bpg_reader.proofs.parts.EntryAt.Laws as E′
 use Rattle.bpg_cursor.specs.declared.cursor.Cursor.{Cursor}
 use Rattle.bpg_cursor.specs.declared.step.Step.{Step}
 use Rattle.bpg_cursor.specs.Cursors.{stepAt, yielded, advanced}
-use Rattle.bpg_cursor.proofs.Lent.{Kept, lies-in, lies-out, within, over}
+use Rattle.bpg_cursor.proofs.Held.{answer-mach, made, lies-in, lies-out, Kept, within, over}
 use Rattle.bpg_cursor.proofs.cursor.Cursor as T
 use Rattle.bpg_cursor.proofs.cursor.Cursor.Laws as T′
 use Rattle.bpg_cursor.proofs.step.Step as S
@@ -117,9 +117,6 @@ module _ {M : Type 1} (𝓤 : URA M) (H : Heap 𝓤) (A : Atoms 𝓤) (W : Given
   abbrev Said : EntryAt → Cursor → Type 0
   Said a d = (a ≡ yielded c) × (d ≡ advanced c)
 
-  abbrev answer-mach : EntryAt → Val
-  answer-mach a = EL.val E.the-type E′.the-laws a
-
   abbrev step-mach : Step → Val
   step-mach r = LL.val S.the-type S′.the-laws r
 
@@ -142,10 +139,9 @@ module _ {M : Type 1} (𝓤 : URA M) (H : Heap 𝓤) (A : Atoms 𝓤) (W : Given
         assigns ! (addr ! (from ! (stop !))) (from ! (stop !)) (init ! 2 refl (tt, tt)) $
         -- what the file owns is had twice: once inside the cursor
         move ! (15 ∷ []) $ fsplit ! $ move ! (1 ∷ []) $ drop ! $ use1 W (‵ Own ⊛ ‵ Own) (shr-slice-copy 𝓤 H A W (named 0) κ u8 .twice s (v ∷ [])) $ split ! $
-        nothing ! $ owned ! usize (Is usize) (uint-makes 𝓤 H A W w64) n _ (refl, fits) $ fjoin ! $ move ! (1 ∷ 0 ∷ []) $ fjoin ! $
-        use1 W (‵ (R .own c (T′.lowered c ∷ []))) (own-shut 𝓤 H A W (T.the-type α) (T′.the-laws α) (s, (n, tt))) $
+        use1 W (‵ (R .own c (T′.lowered c ∷ []))) (made 𝓤 H A W α c fits) $
         -- the cursor is lent for a new lifetime within κ
-        move ! (8 ∷ 0 ∷ []) $ use2 W (‵ (partAt R fullShare c l₃ 0)) (lies-in 𝓤 H A W α l₃ c) $ lft-new ! tt (λ ν.
+        move ! (8 ∷ 0 ∷ []) $ use2 W (‵ (partAt R fullShare c l₃ 0)) (lies-in 𝓤 H A W α c l₃) $ lft-new ! tt (λ ν.
         move ! (16 ∷ []) $ split ! $ move ! (2 ∷ 0 ∷ []) $ use2 W (‵ (flft (ν ∷ κ) (PosShare·left q)) ⊛ ‵ (flft κ (PosShare·right q)) ⊛ raw (Kept 𝓤 H A W ν κ q)) (within 𝓤 H A W ν κ q) $ split3 ! $
         move ! (4 ∷ []) $ use1 W (later (some (λ (δ : GName). ‵ (Lent ν l₃ δ) ⊛ ‵ (flent (ν ∷ κ) (Body (mem R) l₃ 0 δ))))) (lends-ref 𝓤 H A W R (named 0) (ν ∷ κ) c l₃ 0) $ await ! tt $ pick ! (λ δ. split ! $
         move ! (2 ∷ 3 ∷ 0 ∷ []) $ use3 W (raw (Next 𝓤 H A at-mem run .pre (to-next ν l₃ δ))) (goes ν l₃ δ) $
@@ -162,7 +158,7 @@ module _ {M : Type 1} (𝓤 : URA M) (H : Heap 𝓤) (A : Atoms 𝓤) (W : Given
         -- the lifetime is ended, and the cursor comes back
         move ! (1 ∷ []) $ split3 ! $ move ! (0 ∷ 1 ∷ 7 ∷ []) $ use3 W (later (‵ (fdead (ν ∷ κ)) ⊛ ‵ (flft κ q))) (over 𝓤 H A W ν κ q) $ await ! tt $ split ! $
         move ! (0 ∷ 6 ∷ 4 ∷ []) $ use3 W (later (‵ (partAt R fullShare (ds .0) l₃ 0))) (ref-back 𝓤 H A W R (ν ∷ κ) δ (ds .0) l₃ 0) $ await ! tt $
-        use1 W (‵ (fat fullShare (T′.mir erased) l₃ 0 (T′.lowered (ds .0))) ⊛ ‵ (R .own (ds .0) (T′.lowered (ds .0) ∷ []))) (lies-out 𝓤 H A W α l₃ (ds .0)) $ split ! $
+        use1 W (‵ (fat fullShare (T′.mir erased) l₃ 0 (T′.lowered (ds .0))) ⊛ ‵ (R .own (ds .0) (T′.lowered (ds .0) ∷ []))) (lies-out 𝓤 H A W α (ds .0) l₃) $ split ! $
         move ! (1 ∷ []) $ peeks ! R (Is R) (shows 𝓤 H A R) (ds .0) _ (λ was. drop ! $
         let next-fits = LL.owed (T.the-type α) (T′.the-laws α) (ds .0) _ was .1 .0 .1 in
         let r : Step = record { answer = a; next = ds .0 .index } in

@@ -15,8 +15,8 @@ enum-told : tie.Need-enum-told
 enum-told c = search needs
 
 -- an entry's index is below 16
-add-t5 : tie.Need-add-t5
-add-t5 c =
+add-next : tie.Need-add-next
+add-next c =
     let r = c .before .before in
     let file = r .before .before .args .file .now in
     let most = count-most file (all-bytes file (λ i. omega (arith, r .before .shared-slice-known .given i))) in
@@ -26,11 +26,11 @@ enum-told-2 : tie.Need-enum-told-2
 enum-told-2 c = search needs
 
 returns : tie.Need-returns
-returns c = let r = c .before .before in step-found _ _ _ _ (r .entry-at .ensures) (c .enum-told .given .1)
+returns c = let r = c .before .before in step-found _ _ _ _ _ (r .entry-at .ensures) (c .enum-told .given .1) (omega arith)
 
 returns-2 : tie.Need-returns-2
-returns-2 c = let r = c .before .before in step-absent _ _ _ (r .entry-at .ensures) (c .enum-told2 .given .1)
+returns-2 c = let r = c .before .before in step-absent _ _ _ _ (r .entry-at .ensures) (c .enum-told2 .given .1) (omega arith)
 
 pub step-at-spec : {M : Type 1} → statement M
 step-at-spec =
-    tie.close (tie.spec entry-at-requires enum-told add-t5 enum-told-2 returns returns-2)
+    tie.close (tie.spec entry-at-requires enum-told add-next enum-told-2 returns returns-2)
