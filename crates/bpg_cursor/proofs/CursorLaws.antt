@@ -33,13 +33,13 @@ found (EntryAt.Found e) = 1
 found EntryAt.Absent = 0
 
 module _ (f : List ℕ) (k : ℕ) where
-  answer-found : k < entryCount f → entryAnswer f k ≡ EntryAt.Found (entryOf f k)
+  pub answer-found : k < entryCount f → entryAnswer f k ≡ EntryAt.Found (entryOf f k)
   answer-found h = select-true (EntryAt.Found (entryOf f k)) EntryAt.Absent (lt-ltb k (entryCount f) h)
 
-  answer-absent : entryCount f ≤ k → entryAnswer f k ≡ EntryAt.Absent
+  pub answer-absent : entryCount f ≤ k → entryAnswer f k ≡ EntryAt.Absent
   answer-absent h = select-false (EntryAt.Found (entryOf f k)) EntryAt.Absent (le-ltb k (entryCount f) h)
 
-  next-more : k < entryCount f → nextIndex f k ≡ k + 1
+  pub next-more : k < entryCount f → nextIndex f k ≡ k + 1
   next-more h = select-true (k + 1) k (lt-ltb k (entryCount f) h)
 
   next-same : entryCount f ≤ k → nextIndex f k ≡ k
