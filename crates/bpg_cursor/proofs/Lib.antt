@@ -1,0 +1,4 @@
+-- Laws of the cursor.
+pub mod CursorLaws
+pub mod TagLaws
+pub mod Held

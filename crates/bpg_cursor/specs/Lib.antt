@@ -1,0 +1,3 @@
+-- The cursor over a file's entries.
+pub mod Cursors
+pub mod Tags
