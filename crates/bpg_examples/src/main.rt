@@ -1,47 +1,39 @@
-// Reads the files of standard input and prints a line for each: the file, what `bpgshow` prints for it, and, where it is accepted,
-// the rest of its record and the coded size.
+// Runs the library on the cases of standard input and prints a line for each.
 //
-// A file is a line of hex digits; `-` is the empty file.
+// A case is a line of hex digits: a byte that says what to run, and the bytes to run it on. `#` begins a comment; other characters
+// are skipped.
+//   00 to 05  a number code, see `numbers`       07  writing a record, see `case`
+//   06        reading a file                     08  canonicalizing a file
+mod canonical;
+mod case;
 mod fields;
+mod hex;
+mod numbers;
+mod reading;
+mod text;
+mod writing;
 
-use bpg_cases::hex;
-use bpg_cases::hex::HexLine;
-use bpg_cases::text;
-use bpg_format::Reading;
-use bpg_summary::line;
+use crate::hex::HexLine;
 
-// What `bpgshow` prints, without the newline.
-fn show_summary(reading: Reading) {
-    let mut space = [0u8; 160];
-    let n = line::write(reading, &mut space);
-    if 0 < n {
-        text::show_first(&space, n - 1);
-    }
-}
-
-fn show_reading(reading: Reading) {
-    text::show(b" ");
-    show_summary(reading);
-    if reading.status == 0 {
-        fields::show(reading);
-    }
-    text::show(b"\n");
-}
-
-// The first bytes are the file.
-fn show_file(bytes: &[u8], count: usize) {
-    if bytes.len() < count {
+// The first bytes are the case. Any other line, such as an empty one, prints nothing.
+fn show_case(bytes: &[u8], count: usize) {
+    if count == 0 || bytes.len() < count {
         return;
     }
-    let file = &bytes[0..count];
-    hex::show(file);
-    show_reading(bpg_reader::read(file));
+    let s = &bytes[0..count];
+    match s[0] {
+        0..=5 => numbers::show(s),
+        6 => reading::show(&s[1..]),
+        7 => writing::show(&s[1..]),
+        8 => canonical::show(&s[1..]),
+        _ => {}
+    }
 }
 
-// Takes one more character; a line that ends is a file. `bytes` holds a line.
+// Takes one more character; a line that ends is a case. `bytes` holds a line.
 fn take(bytes: &mut [u8], line: HexLine, c: u8) -> HexLine {
     if c == b'\n' {
-        show_file(bytes, line.count);
+        show_case(bytes, line.count);
         return hex::none();
     }
     hex::extend(bytes, line, c)
@@ -64,12 +56,12 @@ fn show_chunk(bytes: &mut [u8], begun: HexLine) -> HexLine {
     show_lines(&space[..n], bytes, begun)
 }
 
-// The input's first 16 chunks of 65,536 bytes: more than the cases take.
+// The input's first 32 chunks of 65,536 bytes: more than the cases take. The longest line has 17,188 bytes.
 fn main() {
-    let mut space = io::buffer();
+    let mut space = io::large_buffer();
     let bytes: &mut [u8] = &mut space;
     let mut line = hex::none();
-    let mut left: usize = 16;
+    let mut left: usize = 32;
     while 0 < left {
         line = show_chunk(bytes, line);
         left -= 1;

@@ -9,8 +9,8 @@ Inv-loop bytes₀ line₀ left₀ bytes line left = Unit {0}
 abbrev μ-loop : tie.MeasureT-loop
 μ-loop bytes₀ line₀ left₀ bytes line left = left
 
-buffer-requires : tie.Need-buffer-requires Inv-loop μ-loop
-buffer-requires c κs = search needs
+large-buffer-requires : tie.Need-large-buffer-requires Inv-loop μ-loop
+large-buffer-requires c κs = search needs
 
 slice-aggregate-bytes : tie.Need-slice-aggregate-bytes Inv-loop μ-loop
 slice-aggregate-bytes c = search needs
@@ -42,7 +42,7 @@ main-spec =
     (tie.spec
     Inv-loop
     μ-loop
-    buffer-requires
+    large-buffer-requires
     slice-aggregate-bytes
     none-requires
     loop-holds

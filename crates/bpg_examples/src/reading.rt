@@ -1,0 +1,37 @@
+// Reads a file and prints a line: the file, what `bpgshow` prints for it, and, where it is accepted, the rest of its record and the
+// coded size.
+use crate::fields;
+use crate::hex;
+use crate::text;
+use bpg_format::Reading;
+use bpg_summary::line;
+
+// The first bytes of a buffer.
+fn show_first(s: &[u8], count: usize) {
+    if count <= s.len() {
+        text::show(&s[0..count]);
+    }
+}
+
+// What `bpgshow` prints, without the newline.
+fn show_summary(reading: Reading) {
+    let mut space = [0u8; 160];
+    let n = line::write(reading, &mut space);
+    if 0 < n {
+        show_first(&space, n - 1);
+    }
+}
+
+fn show_reading(reading: Reading) {
+    text::show(b" ");
+    show_summary(reading);
+    if reading.status == 0 {
+        fields::show(reading);
+    }
+    text::show(b"\n");
+}
+
+pub(crate) fn show(file: &[u8]) {
+    hex::show(file);
+    show_reading(bpg_reader::read(file));
+}

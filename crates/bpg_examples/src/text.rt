@@ -1,0 +1,11 @@
+// Text on standard output. What is printed is part of no contract: the program's output is held to its file `stdout`.
+
+pub(crate) fn show(s: &[u8]) {
+    io::write_all(1, s);
+}
+
+// A label and a number.
+pub(crate) fn show_number(label: &[u8], v: u64) {
+    show(label);
+    io::print_decimal(1, v);
+}
