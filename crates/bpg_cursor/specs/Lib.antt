@@ -1,3 +1,2 @@
 -- The cursor over a file's entries.
 pub mod Cursors
-pub mod Tags

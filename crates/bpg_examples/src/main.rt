@@ -4,8 +4,10 @@
 // are skipped.
 //   00 to 05  a number code, see `numbers`       07  writing a record, see `case`
 //   06        reading a file                     08  canonicalizing a file
+//                                                09  walking over a file's entries
 mod canonical;
 mod case;
+mod cursor;
 mod fields;
 mod hex;
 mod numbers;
@@ -26,6 +28,7 @@ fn show_case(bytes: &[u8], count: usize) {
         6 => reading::show(&s[1..]),
         7 => writing::show(&s[1..]),
         8 => canonical::show(&s[1..]),
+        9 => cursor::show(&s[1..]),
         _ => {}
     }
 }
