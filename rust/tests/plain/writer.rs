@@ -3,7 +3,7 @@
 use bpg::{Reason, Record, Refusal, Span};
 
 use super::check::{check, has_alpha, used};
-use super::encode::Encoded;
+use super::encode::encode;
 use super::list::{record_of, RECORD};
 use super::{refuse, MAX_FILE};
 
@@ -27,38 +27,60 @@ pub fn write_list(numbers: &[u64], source: &[u8], out: &mut [u8]) -> Result<usiz
     }
 }
 
-/// Measures and stores a record that was judged. Sizes are in 64 bits: ranges may overlap, so that the
-/// file can have more bytes than the source.
+/// Stores a record that was judged.
 pub fn store(record: &Record, source: &[u8], out: &mut [u8]) -> Result<usize, Refusal> {
-    let block = block_size(record);
-    let alpha = has_alpha(record).then(|| Encoded::new(&record.alpha_header).bytes());
-    let color = Encoded::new(&record.color_header).bytes();
-    // A header has at most 16 bytes, and so its length one.
-    let headers = alpha.map_or(0, |(_, length)| 1 + length) + 1 + color.1;
-    let picture = headers as u64 + u64::from(record.data.length);
-    let data_length = if record.explicit_length { picture } else { 0 };
-    let mut size = 6 + ue7_size(record.picture_width.into());
-    size += ue7_size(record.picture_height.into()) + ue7_size(data_length) + picture;
-    if record.extension_present_flag {
-        size += ue7_size(block) + block;
-    }
-    if size > MAX_FILE as u64 {
+    let parts = Parts::of(record);
+    if parts.size > MAX_FILE as u64 {
         return refuse(Reason::FileTooLong, 0);
     }
-    let Some(room) = out.get_mut(..size as usize) else {
+    let Some(room) = out.get_mut(..parts.size as usize) else {
         return refuse(Reason::BufferTooSmall, 0);
     };
     let mut out = Out { room, source };
-    out.head(record, data_length);
+    out.head(record, parts.data_length);
     if record.extension_present_flag {
-        out.block(record, block);
+        out.block(record, parts.block);
     }
-    if let Some(alpha) = alpha {
+    if let Some(alpha) = &parts.alpha {
         out.header(alpha);
     }
-    out.header(color);
+    out.header(&parts.color);
     out.part(record.data);
-    Ok(size as usize)
+    Ok(parts.size as usize)
+}
+
+/// What follows from a record: its lengths and its headers' bytes. Lengths are in 64 bits: ranges may
+/// overlap, so that the file can have more bytes than the source.
+struct Parts {
+    alpha: Option<([u8; 16], usize)>,
+    color: ([u8; 16], usize),
+    block: u64,
+    data_length: u64,
+    size: u64,
+}
+
+impl Parts {
+    fn of(record: &Record) -> Parts {
+        let alpha = has_alpha(record).then(|| encode(&record.alpha_header));
+        let color = encode(&record.color_header);
+        // A header has at most 16 bytes, and so its length one.
+        let headers = alpha.map_or(0, |(_, length)| 1 + length) + 1 + color.1;
+        let picture = headers as u64 + u64::from(record.data.length);
+        let data_length = if record.explicit_length { picture } else { 0 };
+        let block = block_size(record);
+        let mut size = 6 + ue7_size(record.picture_width.into());
+        size += ue7_size(record.picture_height.into()) + ue7_size(data_length) + picture;
+        if record.extension_present_flag {
+            size += ue7_size(block) + block;
+        }
+        Parts {
+            alpha,
+            color,
+            block,
+            data_length,
+            size,
+        }
+    }
 }
 
 fn block_size(record: &Record) -> u64 {
@@ -106,9 +128,9 @@ impl Out<'_> {
         }
     }
 
-    fn header(&mut self, (bytes, length): ([u8; 16], usize)) {
-        self.ue7(length as u64);
-        self.bytes(&bytes[..length]);
+    fn header(&mut self, (bytes, length): &([u8; 16], usize)) {
+        self.ue7(*length as u64);
+        self.bytes(&bytes[..*length]);
     }
 
     #[inline]
@@ -119,6 +141,10 @@ impl Out<'_> {
 
     #[inline]
     fn ue7(&mut self, value: u64) {
+        if value < 0x80 {
+            self.take(1)[0] = value as u8;
+            return;
+        }
         let size = ue7_size(value);
         for (i, byte) in self.take(size as usize).iter_mut().rev().enumerate() {
             let more = if i == 0 { 0 } else { 0x80 };
