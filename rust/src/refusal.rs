@@ -3,94 +3,62 @@
 use std::error::Error;
 use std::fmt;
 
-/// The reason of a refusal. Its discriminant is the refusal's number.
-#[derive(Clone, Copy, Debug, PartialEq, Eq, Hash)]
-#[repr(u8)]
-pub enum Reason {
-    FileTooLong = 1,
-    Truncated = 2,
-    Magic = 3,
-    BadPixelFormat = 4,
-    BadBitDepth = 5,
-    BadColorSpace = 6,
-    NumberNotShortest = 7,
-    NumberTooLarge = 8,
-    EmptyPicture = 9,
-    BadDataLength = 10,
-    TooManyEntries = 11,
-    ZeroPeriod = 12,
-    SecondLoop = 13,
-    NoLoop = 14,
-    BadHeader = 15,
-    HevcRule = 16,
-    ForbiddenBit = 17,
-    RangeOutside = 18,
-    Inconsistent = 19,
-    BufferTooSmall = 20,
+/// The enum of the reasons from one table: number, name, meaning.
+macro_rules! reasons {
+    ($($number:literal $name:ident $meaning:literal,)*) => {
+        /// The reason of a refusal. Its discriminant is the refusal's number.
+        #[derive(Clone, Copy, Debug, PartialEq, Eq, Hash)]
+        #[repr(u8)]
+        pub enum Reason {
+            $(#[doc = concat!($number, ": ", $meaning, ".")] $name = $number,)*
+        }
+
+        impl Reason {
+            /// The reason with this number, if there is one.
+            pub fn from_number(number: u8) -> Option<Reason> {
+                match number {
+                    $($number => Some(Reason::$name),)*
+                    _ => None,
+                }
+            }
+
+            /// The reason in words.
+            pub fn meaning(self) -> &'static str {
+                match self {
+                    $(Reason::$name => $meaning,)*
+                }
+            }
+        }
+    };
+}
+
+reasons! {
+    1 FileTooLong "the file has more than 16,777,216 bytes",
+    2 Truncated "an item does not fit the file, block, payload or data region",
+    3 Magic "the magic is not that of a BPG file",
+    4 BadPixelFormat "the pixel format is above 5",
+    5 BadBitDepth "the bit depth is above 14",
+    6 BadColorSpace "the color space is above 4, or not 0 in a gray picture",
+    7 NumberNotShortest "an integer is not in its shortest form",
+    8 NumberTooLarge "an integer is too large",
+    9 EmptyPicture "the width or height is 0",
+    10 BadDataLength "the picture data length misses the end of the file",
+    11 TooManyEntries "there are more than 16 extension entries",
+    12 ZeroPeriod "a number of the frame period is 0",
+    13 SecondLoop "there is a second animation control entry",
+    14 NoLoop "an animation has no animation control entry",
+    15 BadHeader "the fields and the length of a HEVC header disagree",
+    16 HevcRule "a HEVC header breaks a rule on sizes or depths",
+    17 ForbiddenBit "a HEVC header sets a forbidden extension bit or range flag",
+    18 RangeOutside "a range of the record lies outside the source",
+    19 Inconsistent "an unused or absent field of the record is not zero, or its fields contradict each other",
+    20 BufferTooSmall "the buffer is too small",
 }
 
 impl Reason {
-    /// All reasons, in the order of their numbers.
-    pub const ALL: [Reason; 20] = [
-        Reason::FileTooLong,
-        Reason::Truncated,
-        Reason::Magic,
-        Reason::BadPixelFormat,
-        Reason::BadBitDepth,
-        Reason::BadColorSpace,
-        Reason::NumberNotShortest,
-        Reason::NumberTooLarge,
-        Reason::EmptyPicture,
-        Reason::BadDataLength,
-        Reason::TooManyEntries,
-        Reason::ZeroPeriod,
-        Reason::SecondLoop,
-        Reason::NoLoop,
-        Reason::BadHeader,
-        Reason::HevcRule,
-        Reason::ForbiddenBit,
-        Reason::RangeOutside,
-        Reason::Inconsistent,
-        Reason::BufferTooSmall,
-    ];
-
     /// The refusal's number, 1 to 20.
     pub fn number(self) -> u8 {
         self as u8
-    }
-
-    /// The reason with this number, if there is one.
-    pub fn from_number(number: u8) -> Option<Reason> {
-        let index = usize::from(number).checked_sub(1)?;
-        Reason::ALL.get(index).copied()
-    }
-
-    /// The reason in words.
-    pub fn meaning(self) -> &'static str {
-        match self {
-            Reason::FileTooLong => "the file has more than 16,777,216 bytes",
-            Reason::Truncated => "an item does not fit the file, block, payload or data region",
-            Reason::Magic => "the magic is not that of a BPG file",
-            Reason::BadPixelFormat => "the pixel format is above 5",
-            Reason::BadBitDepth => "the bit depth is above 14",
-            Reason::BadColorSpace => "the color space is above 4, or not 0 in a gray picture",
-            Reason::NumberNotShortest => "an integer is not in its shortest form",
-            Reason::NumberTooLarge => "an integer is too large",
-            Reason::EmptyPicture => "the width or height is 0",
-            Reason::BadDataLength => "the picture data length misses the end of the file",
-            Reason::TooManyEntries => "there are more than 16 extension entries",
-            Reason::ZeroPeriod => "a number of the frame period is 0",
-            Reason::SecondLoop => "there is a second animation control entry",
-            Reason::NoLoop => "an animation has no animation control entry",
-            Reason::BadHeader => "the fields and the length of a HEVC header disagree",
-            Reason::HevcRule => "a HEVC header breaks a rule on sizes or depths",
-            Reason::ForbiddenBit => "a HEVC header sets a forbidden extension bit or range flag",
-            Reason::RangeOutside => "a range of the record lies outside the source",
-            Reason::Inconsistent => {
-                "an unused or absent field of the record is not zero, or its fields contradict each other"
-            }
-            Reason::BufferTooSmall => "the buffer is too small",
-        }
     }
 }
 

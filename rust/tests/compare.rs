@@ -21,8 +21,8 @@ const ROOM: usize = 1 << 20;
 #[test]
 fn the_library_agrees_with_plain_rust() {
     let seed = setting("BPG_SEED", 20_150_425);
-    let files = setting("BPG_FILES", 900_000);
-    let records = setting("BPG_RECORDS", 400_000);
+    let files = setting("BPG_FILES", 1_500_000);
+    let records = setting("BPG_RECORDS", 700_000);
     println!("seed {seed}: {files} files, {records} records, and some large");
     let mut table = large_cases(&mut Random::new(seed));
     thread::scope(|scope| {

@@ -38,6 +38,12 @@ fn same<T: PartialEq + std::fmt::Debug>(
     }
 }
 
+/// Bytes in hex; of a large file the start, since the seed gives the rest again.
 fn hex(bytes: &[u8]) -> String {
-    bytes.iter().map(|byte| format!("{byte:02x}")).collect()
+    let shown = &bytes[..bytes.len().min(100_000)];
+    let mut text: String = shown.iter().map(|byte| format!("{byte:02x}")).collect();
+    if shown.len() < bytes.len() {
+        text += &format!(".. ({} bytes)", bytes.len());
+    }
+    text
 }

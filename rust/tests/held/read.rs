@@ -43,33 +43,24 @@ fn parts(file: &[u8], record: &Record, random: &mut Random, case: &dyn Fn() -> S
         part(file, k, Some(*entry), case);
     }
     part(file, used.len(), None, case);
-    let past = used.len() + random.next() as usize % (usize::MAX - 16);
-    part(file, past, None, case);
+    // Far past the last, too: an index cut to fewer bits would find an entry.
+    let far = random.below(used.len() + 1) + (1 << random.within(5, usize::BITS as usize - 1));
+    part(file, far, None, case);
     let mut walk = bpg::entries(file);
     for entry in used {
         same("the walk", case, walk.next(), Some(*entry));
     }
     same("the walk's end", case, walk.next(), None);
     same("after the walk's end", case, walk.next(), None);
-    same_part(
-        "the data",
-        case,
-        bpg::data(file),
-        &file[record.data.range()],
-    );
+    let data = &file[record.data.range()];
+    same_part("the data", case, bpg::data(file), data);
 }
 
 fn part(file: &[u8], k: usize, entry: Option<Entry>, case: &dyn Fn() -> String) {
     same("an entry", case, bpg::entry(file, k), entry);
     let Entry { tag, payload } = entry.unwrap_or_default();
-    let numbers = [tag, payload.start, payload.length];
-    let expected = (entry.is_some(), numbers);
-    same(
-        "an entry's numbers",
-        case,
-        bpg::ffi::entry(file, k),
-        expected,
-    );
+    let numbers = (entry.is_some(), [tag, payload.start, payload.length]);
+    same("its numbers", case, bpg::ffi::entry(file, k), numbers);
     let range = payload.range();
     same_part("a payload", case, bpg::payload(file, k), &file[range]);
 }
