@@ -1,5 +1,5 @@
-//! How the proved library compares with plain Rust, and its copying with memcpy: ratios of medians, measured
-//! in turns in the same run. `cargo bench` compiles both with optimization.
+//! How the proved library compares with plain Rust, and its copying with memcpy, measured in turns in the
+//! same run. `cargo bench` compiles with optimization.
 
 #[path = "../tests/plain/mod.rs"]
 #[allow(dead_code, unused_imports)]
@@ -9,102 +9,131 @@ mod sample;
 
 use std::hint::black_box;
 
-use race::race;
+use race::Race;
+
+const SIZES: [(&str, usize); 3] = [("1 KiB", 1 << 10), ("64 KiB", 1 << 16), ("16 MiB", 1 << 24)];
 
 fn main() {
-    println!("Medians of rounds in turns, in ns a call; a ratio above 1 says that the library is slower.");
-    println!("Every byte of the buffers was touched before; they are not cleared between calls.");
+    println!("Times are medians in ns a call. Ratios are medians over rounds in which each takes its turn;");
+    println!(
+        "above 1 the library is slower. Every byte of the buffers was touched before; they are not"
+    );
+    println!("cleared between calls. `list`: the C call, a record being a list of numbers.");
     println!();
-    println!("read                     library    plain  ratio   wrapper    plain  ratio");
+    println!("                              library      plain  ratio");
     for entries in [0, 3, 16] {
         for alpha in [false, true] {
             reading(entries, alpha);
         }
     }
     println!();
-    println!("                         library    plain  ratio    memcpy  ratio");
-    let sizes = [("1 KiB", 1 << 10), ("64 KiB", 1 << 16), ("16 MiB", 1 << 24)];
-    for (name, size) in sizes {
+    println!("                              library      plain  ratio     memcpy  ratio");
+    for (name, size) in SIZES {
         canonicalizing(name, size);
     }
-    for (name, size) in sizes {
+    for (name, size) in SIZES {
         writing(name, size);
+        writing_list(name, size);
     }
 }
 
-/// The C call that fills the list of numbers, and the wrapper that answers a record.
 fn reading(entries: usize, alpha: bool) {
-    let file = sample::file(entries, alpha, 200);
-    let file = file.as_slice();
-    let (mut list, mut plain_list) = ([1; plain::NUMBERS], [1; plain::NUMBERS]);
-    let [list, plain_list] = race([
-        &mut || {
-            black_box(bpg::ffi::read(black_box(file), black_box(&mut list)));
-        },
-        &mut || {
-            let answer = plain::read_list(black_box(file), black_box(&mut plain_list));
-            black_box(answer).expect("the file is valid");
-        },
-    ]);
-    let [wrapper, plain] = race([
-        &mut || {
-            let record = bpg::read(black_box(file));
-            black_box(&record);
-        },
-        &mut || {
-            let record = plain::read(black_box(file));
-            black_box(&record);
-        },
-    ]);
-    let alpha = if alpha { ", alpha" } else { "" };
-    print!("{:22}", format!("{entries} entries{alpha}"));
-    print!("{list:10.0} {plain_list:8.0} {:6.2}", list / plain_list);
-    println!("{wrapper:10.0} {plain:8.0} {:6.2}", wrapper / plain);
+    let file = &sample::file(entries, alpha, 200)[..];
+    let name = format!("{entries} entries{}", if alpha { ", alpha" } else { "" });
+    let mut list = [1; plain::NUMBERS];
+    let lists = Race::run(
+        &mut list,
+        [
+            &mut |list| {
+                black_box(bpg::ffi::read(black_box(file), black_box(list)));
+            },
+            &mut |list| {
+                black_box(&plain::read_list(black_box(file), black_box(list)));
+            },
+        ],
+    );
+    show_two(&format!("read list, {name}"), &lists);
+    let records = Race::run::<()>(
+        &mut [],
+        [
+            &mut |_| {
+                black_box(&bpg::read(black_box(file)));
+            },
+            &mut |_| {
+                black_box(&plain::read(black_box(file)));
+            },
+        ],
+    );
+    show_two(&format!("read, {name}"), &records);
 }
 
 fn canonicalizing(name: &str, size: usize) {
-    let file = sample::file(3, true, size);
-    let [mut out, mut plain_out, mut copy] = [(); 3].map(|()| vec![1; size]);
-    let medians = race([
-        &mut || {
-            let count = bpg::canonicalize(black_box(&file), black_box(&mut out));
-            black_box(count).expect("the file is valid");
-        },
-        &mut || {
-            let count = plain::canonicalize(black_box(&file), black_box(&mut plain_out));
-            black_box(count).expect("the file is valid");
-        },
-        &mut || black_box(&mut copy[..]).copy_from_slice(black_box(&file)),
-    ]);
-    show(&format!("canonicalize {name}"), medians);
+    let file = &sample::file(3, true, size)[..];
+    let race = Race::run(
+        &mut buffer(size),
+        [
+            &mut |out| ok(bpg::canonicalize(black_box(file), black_box(out))),
+            &mut |out| ok(plain::canonicalize(black_box(file), black_box(out))),
+            &mut |out| black_box(out).copy_from_slice(black_box(file)),
+        ],
+    );
+    show_three(&format!("canonicalize {name}"), &race);
 }
 
 fn writing(name: &str, size: usize) {
-    let file = sample::file(3, true, size);
-    let record = bpg::read(&file).expect("the file is valid");
-    let [mut out, mut plain_out, mut copy] = [(); 3].map(|()| vec![1; size]);
-    let medians = race([
-        &mut || {
-            let count = bpg::write(black_box(&record), black_box(&file), black_box(&mut out));
-            black_box(count).expect("the record is valid");
-        },
-        &mut || {
-            let count = plain::write(
-                black_box(&record),
-                black_box(&file),
-                black_box(&mut plain_out),
-            );
-            black_box(count).expect("the record is valid");
-        },
-        &mut || black_box(&mut copy[..]).copy_from_slice(black_box(&file)),
-    ]);
-    show(&format!("write {name}"), medians);
+    let file = &sample::file(3, true, size)[..];
+    let record = &bpg::read(file).expect("the file is valid");
+    let race = Race::run(
+        &mut buffer(size),
+        [
+            &mut |out| ok(bpg::write(black_box(record), file, black_box(out))),
+            &mut |out| ok(plain::write(black_box(record), file, black_box(out))),
+            &mut |out| black_box(out).copy_from_slice(black_box(file)),
+        ],
+    );
+    show_three(&format!("write {name}"), &race);
 }
 
-fn show(name: &str, [library, plain, copy]: [f64; 3]) {
-    print!(
-        "{name:22}{library:10.0} {plain:8.0} {:6.2}",
-        library / plain
+fn writing_list(name: &str, size: usize) {
+    let file = &sample::file(3, true, size)[..];
+    let list = &mut [0; plain::NUMBERS][..];
+    ok(plain::read_list(file, list).map(|()| 0));
+    let list = &*list;
+    let race = Race::run(
+        &mut buffer(size),
+        [
+            &mut |out| {
+                black_box(bpg::ffi::write(black_box(list), file, black_box(out)));
+            },
+            &mut |out| ok(plain::write_list(black_box(list), file, black_box(out))),
+            &mut |out| black_box(out).copy_from_slice(black_box(file)),
+        ],
     );
-    println!("{copy:10.0} {:6.2}", library / copy);
+    show_three(&format!("write list {name}"), &race);
+}
+
+/// A buffer whose every byte was written, so that no page is met for the first time.
+fn buffer(size: usize) -> Vec<u8> {
+    vec![1; size]
+}
+
+fn ok(answer: Result<usize, bpg::Refusal>) {
+    black_box(answer).expect("file and record are valid");
+}
+
+fn show_two(name: &str, race: &Race<2>) {
+    let (library, plain) = (race.time(0), race.time(1));
+    println!(
+        "{name:27}{library:10.0} {plain:10.0} {:6.2}",
+        race.ratio(0, 1)
+    );
+}
+
+fn show_three(name: &str, race: &Race<3>) {
+    let [library, plain, copy] = [0, 1, 2].map(|function| race.time(function));
+    print!(
+        "{name:27}{library:10.0} {plain:10.0} {:6.2}",
+        race.ratio(0, 1)
+    );
+    println!(" {copy:10.0} {:6.2}", race.ratio(0, 2));
 }

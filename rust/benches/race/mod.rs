@@ -1,43 +1,55 @@
 //! Functions measured in turns, so that what slows the machine down slows all of them.
 
-use std::time::{Duration, Instant};
+use std::time::Instant;
 
-const ROUNDS: usize = 201;
+const ROUNDS: usize = 301;
 
-/// A round of one function takes about this long.
-const ROUND: Duration = Duration::from_micros(500);
+/// A function's turn takes at least about this long, in ns.
+const ROUND: f64 = 500_000.0;
 
-/// The median time of each function, in ns a call.
-pub fn race<const N: usize>(mut functions: [&mut dyn FnMut(); N]) -> [f64; N] {
-    let calls = calls_a_round(functions[0]);
-    let mut times = [(); N].map(|()| Vec::with_capacity(ROUNDS));
-    for _ in 0..ROUNDS {
-        for (function, times) in functions.iter_mut().zip(&mut times) {
-            times.push(time(function, calls));
-        }
+type Function<'a, T> = &'a mut dyn FnMut(&mut [T]);
+
+/// The times of N functions, in ns a call, round by round.
+pub struct Race<const N: usize>(Vec<[f64; N]>);
+
+impl<const N: usize> Race<N> {
+    /// All write into the same buffer: where a buffer lies in memory makes a difference, too.
+    pub fn run<T>(buffer: &mut [T], mut functions: [Function<T>; N]) -> Self {
+        let calls = calls_a_round(&mut || functions[0](buffer));
+        let mut round = || {
+            let functions = functions.each_mut();
+            functions.map(|function| time(&mut || function(buffer), calls))
+        };
+        Race((0..ROUNDS).map(|_| round()).collect())
     }
-    times.map(median)
+
+    /// The median time of a function.
+    pub fn time(&self, function: usize) -> f64 {
+        median(self.0.iter().map(|round| round[function]))
+    }
+
+    /// The median, over the rounds, of how much longer one function took than another.
+    pub fn ratio(&self, function: usize, other: usize) -> f64 {
+        median(self.0.iter().map(|round| round[function] / round[other]))
+    }
 }
 
-fn calls_a_round(function: &mut dyn FnMut()) -> u32 {
+fn calls_a_round(call: &mut dyn FnMut()) -> u32 {
     let mut calls = 1;
-    loop {
-        let start = Instant::now();
-        (0..calls).for_each(|_| function());
-        if start.elapsed() >= ROUND || calls >= 1 << 20 {
-            return calls;
-        }
+    while time(call, calls) * f64::from(calls) < ROUND {
         calls *= 2;
     }
+    calls
 }
 
-fn time(function: &mut dyn FnMut(), calls: u32) -> f64 {
+fn time(call: &mut dyn FnMut(), calls: u32) -> f64 {
     let start = Instant::now();
-    (0..calls).for_each(|_| function());
+    (0..calls).for_each(|_| call());
     start.elapsed().as_nanos() as f64 / f64::from(calls)
 }
 
-fn median(mut times: Vec<f64>) -> f64 {
-    times.sort_by(f64::total_cmp);
-    times[times.len() / 2]
+fn median(values: impl Iterator<Item = f64>) -> f64 {
+    let mut values: Vec<f64> = values.collect();
+    values.sort_by(f64::total_cmp);
+    values[values.len() / 2]
 }
