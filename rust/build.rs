@@ -33,6 +33,8 @@ fn build(root: &Path) {
     let status = Command::new("rt")
         .args(["staticlib", CRATE])
         .current_dir(root)
+        // Cargo reads this program's own output as instructions.
+        .stdout(std::io::stderr())
         .status();
     match status {
         Ok(status) if status.success() => {}

@@ -1,15 +1,16 @@
-//! The functions of the proved static library, as safe functions over slices: all `unsafe` code of
-//! the package. For the comparison and the benchmark; programs use the functions of the crate's root.
+//! The functions of the proved static library (`include/bpg.h`), as safe functions over slices: all
+//! `unsafe` code of the package. For the comparison and the benchmark; programs use the crate's root.
 //!
 //! Why the calls are sound: each pointer comes from a slice, with that slice's length, or from a
 //! local variable. So it is not null, is aligned, and is valid for the call; a `&mut` slice shares no
-//! byte with another argument. The library reads and writes inside these lengths only, keeps no
-//! pointer, and has no precondition: both are proved for every input.
+//! byte with another argument. That the library stays inside these lengths, for every input, is part
+//! of its proof, and it has no memory of its own to keep a pointer in. The declarations below are not
+//! checked against it by the compiler: they are those of the header, and the comparison runs them all.
 
 /// How many numbers [`read`] fills in: a record's, and the coded width and height.
 pub const NUMBERS: usize = 117;
 
-// Results start with values that no call answers, so that the comparison would see one that was not set.
+// Results start with values that are no likely answer, so that the comparison sees one that was not set.
 const UNSET: usize = usize::MAX;
 
 extern "C" {

@@ -1,4 +1,4 @@
-//! How often each status was met.
+//! How many calls answered each status.
 
 use std::fmt;
 
@@ -9,7 +9,7 @@ pub enum Call {
     Canonicalize,
 }
 
-/// Counts by status and call, and the cases they came from.
+/// Calls by status, and the cases they were made for. A case is written into several buffers.
 #[derive(Clone, Default)]
 pub struct Table {
     pub files: u64,
