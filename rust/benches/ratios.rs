@@ -1,0 +1,139 @@
+//! How the proved library compares with plain Rust, and its copying with memcpy, measured in turns in the
+//! same run. `cargo bench` compiles with optimization.
+
+#[path = "../tests/plain/mod.rs"]
+#[allow(dead_code, unused_imports)]
+mod plain;
+mod race;
+mod sample;
+
+use std::hint::black_box;
+
+use race::Race;
+
+const SIZES: [(&str, usize); 3] = [("1 KiB", 1 << 10), ("64 KiB", 1 << 16), ("16 MiB", 1 << 24)];
+
+fn main() {
+    println!("Times are medians in ns a call. Ratios are medians over rounds in which each takes its turn;");
+    println!(
+        "above 1 the library is slower. Every byte of the buffers was touched before; they are not"
+    );
+    println!("cleared between calls. `list`: the C call, a record being a list of numbers.");
+    println!();
+    println!("                              library      plain  ratio");
+    for entries in [0, 3, 16] {
+        for alpha in [false, true] {
+            reading(entries, alpha);
+        }
+    }
+    println!();
+    println!("                              library      plain  ratio     memcpy  ratio");
+    for (name, size) in SIZES {
+        canonicalizing(name, size);
+    }
+    for (name, size) in SIZES {
+        writing(name, size);
+        writing_list(name, size);
+    }
+}
+
+fn reading(entries: usize, alpha: bool) {
+    let file = &sample::file(entries, alpha, 200)[..];
+    let name = format!("{entries} entries{}", if alpha { ", alpha" } else { "" });
+    let mut list = [1; plain::NUMBERS];
+    let lists = Race::run(
+        &mut list,
+        [
+            &mut |list| {
+                black_box(bpg::ffi::read(black_box(file), black_box(list)));
+            },
+            &mut |list| {
+                black_box(&plain::read_list(black_box(file), black_box(list)));
+            },
+        ],
+    );
+    show_two(&format!("read list, {name}"), &lists);
+    let records = Race::run::<()>(
+        &mut [],
+        [
+            &mut |_| {
+                black_box(&bpg::read(black_box(file)));
+            },
+            &mut |_| {
+                black_box(&plain::read(black_box(file)));
+            },
+        ],
+    );
+    show_two(&format!("read, {name}"), &records);
+}
+
+fn canonicalizing(name: &str, size: usize) {
+    let file = &sample::file(3, true, size)[..];
+    let race = Race::run(
+        &mut buffer(size),
+        [
+            &mut |out| ok(bpg::canonicalize(black_box(file), black_box(out))),
+            &mut |out| ok(plain::canonicalize(black_box(file), black_box(out))),
+            &mut |out| black_box(out).copy_from_slice(black_box(file)),
+        ],
+    );
+    show_three(&format!("canonicalize {name}"), &race);
+}
+
+fn writing(name: &str, size: usize) {
+    let file = &sample::file(3, true, size)[..];
+    let record = &bpg::read(file).expect("the file is valid");
+    let race = Race::run(
+        &mut buffer(size),
+        [
+            &mut |out| ok(bpg::write(black_box(record), file, black_box(out))),
+            &mut |out| ok(plain::write(black_box(record), file, black_box(out))),
+            &mut |out| black_box(out).copy_from_slice(black_box(file)),
+        ],
+    );
+    show_three(&format!("write {name}"), &race);
+}
+
+fn writing_list(name: &str, size: usize) {
+    let file = &sample::file(3, true, size)[..];
+    let list = &mut [0; plain::NUMBERS][..];
+    ok(plain::read_list(file, list).map(|()| 0));
+    let list = &*list;
+    let race = Race::run(
+        &mut buffer(size),
+        [
+            &mut |out| {
+                black_box(bpg::ffi::write(black_box(list), file, black_box(out)));
+            },
+            &mut |out| ok(plain::write_list(black_box(list), file, black_box(out))),
+            &mut |out| black_box(out).copy_from_slice(black_box(file)),
+        ],
+    );
+    show_three(&format!("write list {name}"), &race);
+}
+
+/// A buffer whose every byte was written, so that no page is met for the first time.
+fn buffer(size: usize) -> Vec<u8> {
+    vec![1; size]
+}
+
+fn ok(answer: Result<usize, bpg::Refusal>) {
+    black_box(answer).expect("file and record are valid");
+}
+
+fn show_two(name: &str, race: &Race<2>) {
+    let (library, plain) = (race.time(0), race.time(1));
+    println!(
+        "{name:27}{library:10.0} {plain:10.0} {:6.2}",
+        race.ratio(0, 1)
+    );
+}
+
+fn show_three(name: &str, race: &Race<3>) {
+    let [library, plain, copy] = [0, 1, 2].map(|function| race.time(function));
+    print!(
+        "{name:27}{library:10.0} {plain:10.0} {:6.2}",
+        race.ratio(0, 1)
+    );
+    println!(" {copy:10.0} {:6.2}", race.ratio(0, 2));
+}

@@ -1,0 +1,113 @@
+//! The functions of the proved static library (`include/bpg.h`), as safe functions over slices: all
+//! `unsafe` code of the package. For the comparison and the benchmark; programs use the crate's root.
+//!
+//! Why the calls are sound: each pointer comes from a slice, with that slice's length, or from a
+//! local variable. So it is not null, is aligned, and is valid for the call; a `&mut` slice shares no
+//! byte with another argument. That the library stays inside these lengths, for every input, is part
+//! of its proof, and it has no memory of its own to keep a pointer in. The declarations below are not
+//! checked against it by the compiler: they are those of the header, and the comparison runs them all.
+
+/// How many numbers [`read`] fills in: a record's, and the coded width and height.
+pub const NUMBERS: usize = 117;
+
+// Results start with values that are no likely answer, so that the comparison sees one that was not set.
+const UNSET: usize = usize::MAX;
+
+extern "C" {
+    fn bpg_read(
+        file: *const u8,
+        file_len: usize,
+        numbers: *mut u64,
+        numbers_len: usize,
+        offset: *mut usize,
+    ) -> u8;
+    fn bpg_entry(
+        file: *const u8,
+        file_len: usize,
+        k: usize,
+        tag: *mut u32,
+        start: *mut u32,
+        length: *mut u32,
+    ) -> bool;
+    fn bpg_write(
+        numbers: *const u64,
+        numbers_len: usize,
+        source: *const u8,
+        source_len: usize,
+        out: *mut u8,
+        out_len: usize,
+        count: *mut usize,
+    ) -> u8;
+    fn bpg_canonicalize(
+        file: *const u8,
+        file_len: usize,
+        out: *mut u8,
+        out_len: usize,
+        count: *mut usize,
+        offset: *mut usize,
+    ) -> u8;
+}
+
+/// Status and offset; on success the reading stands in the first [`NUMBERS`] of `numbers`.
+pub fn read(file: &[u8], numbers: &mut [u64]) -> (u8, usize) {
+    let mut offset = UNSET;
+    let status = unsafe {
+        bpg_read(
+            file.as_ptr(),
+            file.len(),
+            numbers.as_mut_ptr(),
+            numbers.len(),
+            &mut offset,
+        )
+    };
+    (status, offset)
+}
+
+/// Whether there is an entry with index `k`, and its tag, start and length, or zeros.
+pub fn entry(file: &[u8], k: usize) -> (bool, [u32; 3]) {
+    let [mut tag, mut start, mut length] = [u32::MAX; 3];
+    let found = unsafe {
+        bpg_entry(
+            file.as_ptr(),
+            file.len(),
+            k,
+            &mut tag,
+            &mut start,
+            &mut length,
+        )
+    };
+    (found, [tag, start, length])
+}
+
+/// Status and count; on success that many bytes stand at the start of `out`.
+pub fn write(numbers: &[u64], source: &[u8], out: &mut [u8]) -> (u8, usize) {
+    let mut count = UNSET;
+    let status = unsafe {
+        bpg_write(
+            numbers.as_ptr(),
+            numbers.len(),
+            source.as_ptr(),
+            source.len(),
+            out.as_mut_ptr(),
+            out.len(),
+            &mut count,
+        )
+    };
+    (status, count)
+}
+
+/// Status, count and offset; on success that many bytes stand at the start of `out`.
+pub fn canonicalize(file: &[u8], out: &mut [u8]) -> (u8, usize, usize) {
+    let [mut count, mut offset] = [UNSET; 2];
+    let status = unsafe {
+        bpg_canonicalize(
+            file.as_ptr(),
+            file.len(),
+            out.as_mut_ptr(),
+            out.len(),
+            &mut count,
+            &mut offset,
+        )
+    };
+    (status, count, offset)
+}

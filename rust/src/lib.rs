@@ -1,0 +1,161 @@
+//! Reads, writes and canonicalizes BPG 0.9.5 files.
+//!
+//! These are wrappers over a static library whose every answer is proved, for every input: no call
+//! here has a precondition, and a bad file or record is refused with a [`Refusal`]. A refused call
+//! leaves the buffer as it was.
+//!
+//! ```
+//! // File B of the examples: 8 by 542 pixels, the length of its data given.
+//! let file = *b"BPG\xFB\x20\x00\x08\x84\x1E\x06\x03\x92\x4D\x00\x26\x01";
+//! let record = bpg::read(&file)?;
+//! assert_eq!((record.picture_width, record.picture_height), (8, 542));
+//! assert_eq!(bpg::data(&file), [0x26, 0x01]);
+//!
+//! // Its canonical form, file A, leaves the length open.
+//! let mut out = [0; 16];
+//! let count = bpg::canonicalize(&file, &mut out)?;
+//! assert_eq!(out[..count], *b"BPG\xFB\x20\x00\x08\x84\x1E\x00\x03\x92\x4D\x00\x26\x01");
+//! # Ok::<(), bpg::Refusal>(())
+//! ```
+
+mod entries;
+#[doc(hidden)]
+pub mod ffi;
+mod numbers;
+mod record;
+mod refusal;
+
+pub use entries::Entries;
+pub use record::{Entry, HevcHeader, Record, Span, ANIMATION_CONTROL, MAX_ENTRIES};
+pub use refusal::{Reason, Refusal};
+
+/// Reads a file: its record, or why and where it is refused.
+///
+/// ```
+/// // File A of the examples.
+/// let file = *b"BPG\xFB\x20\x00\x08\x84\x1E\x00\x03\x92\x4D\x00\x26\x01";
+/// let record = bpg::read(&file)?;
+/// assert_eq!(record.pixel_format, 1);
+/// assert_eq!((record.picture_width, record.picture_height), (8, 542));
+/// assert_eq!((record.coded_width, record.coded_height), (8, 544));
+/// assert_eq!(&file[record.data.range()], [0x26, 0x01]);
+///
+/// let refusal = bpg::read(&file[..9]).unwrap_err();
+/// assert_eq!((refusal.number(), refusal.offset), (2, 9));
+/// # Ok::<(), bpg::Refusal>(())
+/// ```
+pub fn read(file: &[u8]) -> Result<Record, Refusal> {
+    let mut list = [0; ffi::NUMBERS];
+    let (status, offset) = ffi::read(file, &mut list);
+    answer(status, offset)?;
+    Ok(numbers::record(&list))
+}
+
+/// The entry with index `k`, from 0. `None` past the last entry and for a refused file.
+///
+/// ```
+/// // File A of the examples has no entry; file C has one, the animation control.
+/// let a = *b"BPG\xFB\x20\x00\x08\x84\x1E\x00\x03\x92\x4D\x00\x26\x01";
+/// let c = *b"BPG\xFB\x20\x09\x08\x84\x1E\x00\x05\x05\x03\x00\x01\x0A\x03\x92\x4D\x00\x26\x01";
+/// assert_eq!(bpg::entry(&a, 0), None);
+/// assert_eq!(bpg::entry(&c, 0).unwrap().payload.range(), 13..16);
+/// ```
+pub fn entry(file: &[u8], k: usize) -> Option<Entry> {
+    let (found, [tag, start, length]) = ffi::entry(file, k);
+    let payload = Span { start, length };
+    found.then_some(Entry { tag, payload })
+}
+
+/// The payload of the entry with index `k`, from 0, as that part of the file: nothing is copied.
+/// Empty past the last entry and for a refused file; [`entry`] and [`read`] tell which it was.
+///
+/// ```
+/// // Files A and C of the examples.
+/// let a = *b"BPG\xFB\x20\x00\x08\x84\x1E\x00\x03\x92\x4D\x00\x26\x01";
+/// let c = *b"BPG\xFB\x20\x09\x08\x84\x1E\x00\x05\x05\x03\x00\x01\x0A\x03\x92\x4D\x00\x26\x01";
+/// assert_eq!(bpg::payload(&a, 0), []);
+/// assert_eq!(bpg::payload(&c, 0), [0x00, 0x01, 0x0A]);
+/// ```
+pub fn payload(file: &[u8], k: usize) -> &[u8] {
+    match entry(file, k) {
+        Some(entry) => &file[entry.payload.range()],
+        None => &file[..0],
+    }
+}
+
+/// The entries of a file in their order; none for a refused file.
+///
+/// ```
+/// // Files A and C of the examples.
+/// let a = *b"BPG\xFB\x20\x00\x08\x84\x1E\x00\x03\x92\x4D\x00\x26\x01";
+/// let c = *b"BPG\xFB\x20\x09\x08\x84\x1E\x00\x05\x05\x03\x00\x01\x0A\x03\x92\x4D\x00\x26\x01";
+/// assert_eq!(bpg::entries(&a).count(), 0);
+/// let tags: Vec<u32> = bpg::entries(&c).map(|entry| entry.tag).collect();
+/// assert_eq!(tags, [bpg::ANIMATION_CONTROL]);
+/// ```
+pub fn entries(file: &[u8]) -> Entries<'_> {
+    Entries::new(file)
+}
+
+/// The HEVC data of a file, as that part of it; empty for a refused file.
+///
+/// ```
+/// // File A of the examples.
+/// let file = *b"BPG\xFB\x20\x00\x08\x84\x1E\x00\x03\x92\x4D\x00\x26\x01";
+/// assert_eq!(bpg::data(&file), [0x26, 0x01]);
+/// assert_eq!(bpg::data(b"no BPG file"), []);
+/// ```
+pub fn data(file: &[u8]) -> &[u8] {
+    match read(file) {
+        Ok(record) => &file[record.data.range()],
+        Err(_) => &file[..0],
+    }
+}
+
+/// Writes the file of a record, whose ranges are in `source`, and answers how many bytes it has. The
+/// rest of `out` is unchanged.
+///
+/// ```
+/// // File A of the examples, read and written again with another width.
+/// let file = *b"BPG\xFB\x20\x00\x08\x84\x1E\x00\x03\x92\x4D\x00\x26\x01";
+/// let mut record = bpg::read(&file)?;
+/// record.picture_width = 16;
+/// let mut out = [0; 16];
+/// let count = bpg::write(&record, &file, &mut out)?;
+/// assert_eq!(out[..count], *b"BPG\xFB\x20\x00\x10\x84\x1E\x00\x03\x92\x4D\x00\x26\x01");
+/// # Ok::<(), bpg::Refusal>(())
+/// ```
+pub fn write(record: &Record, source: &[u8], out: &mut [u8]) -> Result<usize, Refusal> {
+    let (status, count) = ffi::write(&numbers::list(record), source, out);
+    answer(status, 0)?;
+    Ok(count)
+}
+
+/// Writes the canonical form of a file and answers how many bytes it has. The rest of `out` is
+/// unchanged. Two files show the same picture exactly if their canonical forms are equal, and no file
+/// of that picture is shorter; so a buffer as long as the file is always enough.
+///
+/// ```
+/// // File A of the examples is canonical.
+/// let file = *b"BPG\xFB\x20\x00\x08\x84\x1E\x00\x03\x92\x4D\x00\x26\x01";
+/// let mut out = [0; 16];
+/// assert_eq!(bpg::canonicalize(&file, &mut out), Ok(16));
+/// assert_eq!(out, file);
+///
+/// let refusal = bpg::canonicalize(&file, &mut out[..15]).unwrap_err();
+/// assert_eq!(refusal.reason, bpg::Reason::BufferTooSmall);
+/// ```
+pub fn canonicalize(file: &[u8], out: &mut [u8]) -> Result<usize, Refusal> {
+    let (status, count, offset) = ffi::canonicalize(file, out);
+    answer(status, offset)?;
+    Ok(count)
+}
+
+/// A status of the library as a result; 0 is success.
+fn answer(status: u8, offset: usize) -> Result<(), Refusal> {
+    if status == 0 {
+        return Ok(());
+    }
+    let reason = Reason::from_number(status).expect("a status is 0 or a refusal's number");
+    Err(Refusal { reason, offset })
+}

@@ -1,0 +1,102 @@
+//! Why a call refused, and where.
+
+use std::error::Error;
+use std::fmt;
+
+/// The enum of the reasons from one table: number, name, meaning.
+macro_rules! reasons {
+    ($($number:literal $name:ident $meaning:literal,)*) => {
+        /// The reason of a refusal. Its discriminant is the refusal's number.
+        #[derive(Clone, Copy, Debug, PartialEq, Eq, Hash)]
+        #[repr(u8)]
+        pub enum Reason {
+            $(#[doc = concat!($number, ": ", $meaning, ".")] $name = $number,)*
+        }
+
+        impl Reason {
+            /// The reason with this number, if there is one.
+            pub fn from_number(number: u8) -> Option<Reason> {
+                match number {
+                    $($number => Some(Reason::$name),)*
+                    _ => None,
+                }
+            }
+
+            /// The reason in words.
+            pub fn meaning(self) -> &'static str {
+                match self {
+                    $(Reason::$name => $meaning,)*
+                }
+            }
+        }
+    };
+}
+
+reasons! {
+    1 FileTooLong "the file has more than 16,777,216 bytes",
+    2 Truncated "an item does not fit the file, block, payload or data region",
+    3 Magic "the magic is not that of a BPG file",
+    4 BadPixelFormat "the pixel format is above 5",
+    5 BadBitDepth "the bit depth is above 14",
+    6 BadColorSpace "the color space is above 4, or not 0 in a gray picture",
+    7 NumberNotShortest "an integer is not in its shortest form",
+    8 NumberTooLarge "an integer is too large",
+    9 EmptyPicture "the width or height is 0",
+    10 BadDataLength "the picture data length misses the end of the file",
+    11 TooManyEntries "there are more than 16 extension entries",
+    12 ZeroPeriod "a number of the frame period is 0",
+    13 SecondLoop "there is a second animation control entry",
+    14 NoLoop "an animation has no animation control entry",
+    15 BadHeader "the fields and the length of a HEVC header disagree",
+    16 HevcRule "a HEVC header breaks a rule on sizes or depths",
+    17 ForbiddenBit "a HEVC header sets a forbidden extension bit or range flag",
+    18 RangeOutside "a range of the record lies outside the source",
+    19 Inconsistent "an unused or absent field of the record is not zero, or its fields contradict each other",
+    20 BufferTooSmall "the buffer is too small",
+}
+
+impl Reason {
+    /// The refusal's number, 1 to 20.
+    pub fn number(self) -> u8 {
+        self as u8
+    }
+}
+
+/// A call's refusal: the reason, and the offset of the item in the file (0 where none is named).
+///
+/// ```
+/// // File A of the examples, its magic spoiled.
+/// let file = *b"XPG\xFB\x20\x00\x08\x84\x1E\x00\x03\x92\x4D\x00\x26\x01";
+/// let refusal = bpg::read(&file).unwrap_err();
+/// assert_eq!(refusal.number(), 3);
+/// assert_eq!(
+///     refusal.to_string(),
+///     "refused 3 at 0: the magic is not that of a BPG file"
+/// );
+/// ```
+#[derive(Clone, Copy, Debug, PartialEq, Eq, Hash)]
+pub struct Refusal {
+    pub reason: Reason,
+    pub offset: usize,
+}
+
+impl Refusal {
+    /// The refusal's number, 1 to 20.
+    pub fn number(self) -> u8 {
+        self.reason.number()
+    }
+}
+
+impl fmt::Display for Refusal {
+    fn fmt(&self, f: &mut fmt::Formatter<'_>) -> fmt::Result {
+        let Refusal { reason, offset } = self;
+        write!(
+            f,
+            "refused {} at {offset}: {}",
+            reason.number(),
+            reason.meaning()
+        )
+    }
+}
+
+impl Error for Refusal {}

@@ -1,0 +1,191 @@
+//! Records to be written, as lists of numbers, with their sources.
+
+use super::faults::spoiled_control;
+use super::model::Model;
+use super::Random;
+use crate::plain::{read_list, NUMBERS, RECORD};
+
+pub struct Case {
+    pub numbers: Vec<u64>,
+    pub source: Vec<u8>,
+}
+
+const ANIMATION: usize = 7;
+const ENTRY_COUNT: usize = 11;
+const ENTRIES: usize = 12;
+const LOOP: usize = 60;
+const HEADERS: usize = 63;
+const DATA: usize = 113;
+
+/// A record that was read, its parts perhaps at other places of another source, mostly spoiled.
+pub fn case(random: &mut Random) -> Case {
+    let file = Model::valid(random).bytes();
+    let mut numbers = vec![0; NUMBERS];
+    read_list(&file, &mut numbers).expect("the file is valid");
+    let mut case = Case {
+        numbers,
+        source: file,
+    };
+    if random.flag() {
+        case.scatter(random);
+    }
+    match random.below(8) {
+        0 | 1 => {}
+        2..=4 => case.change(random),
+        5 => (0..3).for_each(|_| case.change(random)),
+        6 => case.spoil_control(random),
+        _ => case.contradict(random),
+    }
+    case.resize(random);
+    case
+}
+
+impl Case {
+    /// A list may be longer than the record, whatever the numbers after it, or too short.
+    fn resize(&mut self, random: &mut Random) {
+        let length = match random.below(32) {
+            0 => random.below(RECORD),
+            1 => RECORD - 1,
+            _ => RECORD + random.below(5),
+        };
+        self.numbers.truncate(length.min(RECORD));
+        self.numbers.resize_with(length, || random.next());
+    }
+
+    fn used(&self) -> usize {
+        self.numbers[ENTRY_COUNT].min(16) as usize
+    }
+
+    /// Puts the parts anywhere into a new source, where they may overlap. The tag 5 payload comes last, so
+    /// that its numbers stay.
+    fn scatter(&mut self, random: &mut Random) {
+        let old = std::mem::take(&mut self.source);
+        self.source = random.bytes(old.len() + 8);
+        let mut parts: Vec<usize> = (0..self.used()).map(|k| ENTRIES + 3 * k + 1).collect();
+        parts.sort_by_key(|&at| self.numbers[at - 1] == 5);
+        parts.insert(0, DATA);
+        for at in parts {
+            let [start, length] = [self.numbers[at], self.numbers[at + 1]].map(|n| n as usize);
+            let to = random.below(self.source.len() - length + 1);
+            self.source[to..to + length].copy_from_slice(&old[start..start + length]);
+            self.numbers[at] = to as u64;
+        }
+    }
+
+    /// Another value for one number, often in a group that has few.
+    fn change(&mut self, random: &mut Random) {
+        let groups = [0, ENTRY_COUNT, ENTRIES, LOOP, HEADERS, DATA, RECORD];
+        let group = random.below(groups.len() - 1);
+        let at = match random.below(3) {
+            0 => random.below(RECORD),
+            _ => random.within(groups[group], groups[group + 1] - 1),
+        };
+        let old = self.numbers[at];
+        self.numbers[at] = match random.below(8) {
+            0 => old.wrapping_add(1),
+            1 => old.wrapping_sub(1),
+            2 => random.below(20) as u64,
+            3 => random.pick(&EDGES),
+            4 => random.number(32),
+            5 => random.next() >> random.below(64),
+            _ => old ^ 1,
+        };
+    }
+
+    /// Another tag 5 payload, mostly one with a fault, or other loop numbers.
+    fn spoil_control(&mut self, random: &mut Random) {
+        let Some(k) = (0..self.used()).find(|k| self.numbers[ENTRIES + 3 * k] == 5) else {
+            return self.second_control(random);
+        };
+        if random.one_in(4) {
+            self.numbers[LOOP + random.below(3)] ^= 1 << random.below(16);
+            return;
+        }
+        let payload = spoiled_control(random);
+        self.numbers[ENTRIES + 3 * k + 1] = self.source.len() as u64;
+        self.numbers[ENTRIES + 3 * k + 2] = payload.len() as u64;
+        self.source.extend(payload);
+    }
+
+    /// Makes entries tag 5 as well.
+    fn second_control(&mut self, random: &mut Random) {
+        for _ in 0..2 {
+            let k = random.below(self.used().max(1));
+            self.numbers[ENTRIES + 3 * k] = 5;
+        }
+    }
+
+    /// Presence flags and fields that do not go together, or that only a rule forbids.
+    fn contradict(&mut self, random: &mut Random) {
+        let header = HEADERS + 25 * random.below(2);
+        match random.below(9) {
+            0 => self.numbers[ANIMATION] = 1,
+            1 => self.numbers[random.pick(&[1, 4, 5])] ^= 1,
+            2 => self.numbers[header + random.pick(&[6, 13, 14])] ^= 1,
+            3 => self.numbers[header + random.below(5)] = u32::MAX.into(),
+            4 => self.set_pcm(header, random),
+            5 => self.set_extension(header, random),
+            6 => self.repeat_control(random),
+            7 => self.reach(random),
+            _ => self.numbers[random.pick(&[0, 2, 3, 8, 9])] = random.pick(&[0, 1, 5, 6, 7, 255]),
+        }
+    }
+
+    fn set_pcm(&mut self, header: usize, random: &mut Random) {
+        self.numbers[header + 6] = 1;
+        let at = header + random.within(7, 10);
+        self.numbers[at] = random.pick(&[0, 7, 8, 13, 14, 15, 16, 17, 255, 256, 4_294_967_295]);
+    }
+
+    fn set_extension(&mut self, header: usize, random: &mut Random) {
+        self.numbers[header + 13] = 1;
+        if random.flag() {
+            self.numbers[header + 15] = random.pick(&[1, 64, 127, 128, 129, 255, 256]);
+        } else {
+            self.numbers[header + 14] = 1;
+            self.numbers[header + 16 + random.below(9)] = 1;
+        }
+    }
+
+    /// The tag 5 entry once more, before or after it.
+    fn repeat_control(&mut self, random: &mut Random) {
+        let used = self.used();
+        let Some(k) = (0..used).find(|k| self.numbers[ENTRIES + 3 * k] == 5) else {
+            return;
+        };
+        let from = ENTRIES + 3 * k;
+        let to = ENTRIES + 3 * random.below(used);
+        self.numbers.copy_within(from..from + 3, to);
+    }
+
+    /// A range around the source's end.
+    fn reach(&mut self, random: &mut Random) {
+        let at = match random.below(self.used() + 1) {
+            0 => DATA,
+            k => ENTRIES + 3 * (k - 1) + 1,
+        };
+        let length = self.source.len() as u64;
+        self.numbers[at] = length + random.below(2) as u64;
+        self.numbers[at + 1] = random.pick(&[0, 1, 4_294_967_295]);
+        if random.flag() {
+            self.numbers[at] = random.below(self.source.len()) as u64;
+            self.numbers[at + 1] = length - self.numbers[at] + random.below(2) as u64;
+        }
+    }
+}
+
+/// The largest values of the fields, and the next.
+const EDGES: [u64; 12] = [
+    15,
+    16,
+    17,
+    127,
+    128,
+    255,
+    256,
+    65_535,
+    65_536,
+    u32::MAX as u64,
+    u32::MAX as u64 + 1,
+    u64::MAX,
+];

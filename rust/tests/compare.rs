@@ -1,0 +1,101 @@
+//! Holds the proved library to an independent implementation, over a million files and records a run.
+//!
+//! `BPG_SEED` gives another run, `BPG_FILES` and `BPG_RECORDS` another number of cases. A difference fails
+//! the test and prints the case and both answers.
+
+mod cases;
+mod held;
+mod plain;
+
+use std::env;
+use std::thread;
+
+use cases::{large, records, Random};
+use held::{Rooms, Table};
+
+const THREADS: u64 = 2;
+
+/// Longer than any file of a case that is not one of the large.
+const ROOM: usize = 1 << 20;
+
+#[test]
+fn the_library_agrees_with_plain_rust() {
+    let seed = setting("BPG_SEED", 20_150_425);
+    let files = setting("BPG_FILES", 1_500_000);
+    let records = setting("BPG_RECORDS", 700_000);
+    println!("seed {seed}: {files} files, {records} records, and some large");
+    let mut table = large_cases(&mut Random::new(seed));
+    thread::scope(|scope| {
+        let runs = (1..=THREADS).map(|thread| {
+            let random = Random::new(seed.wrapping_add(thread));
+            scope.spawn(move || run(random, files.div_ceil(THREADS), records.div_ceil(THREADS)))
+        });
+        let runs: Vec<_> = runs.collect();
+        for run in runs {
+            table.add(&run.join().expect("the answers differ"));
+        }
+    });
+    println!("{table}");
+    let rare = table.rare(100);
+    assert!(rare.is_empty(), "met fewer than 100 times: {rare:?}");
+}
+
+fn setting(name: &str, default: u64) -> u64 {
+    match env::var(name) {
+        Ok(text) => text.parse().expect("the setting is a number"),
+        Err(_) => default,
+    }
+}
+
+fn run(mut random: Random, files: u64, records: u64) -> Table {
+    let mut table = Table::default();
+    let mut rooms = Rooms::new(&mut random, ROOM);
+    for _ in 0..files {
+        let file = cases::file(&mut random);
+        held::read(&file, &mut random, &mut table);
+        held::canonical(&file, &mut rooms, &mut random, &mut table);
+    }
+    for _ in 0..records {
+        let case = records::case(&mut random);
+        held::write(&case, &mut rooms, &mut random, &mut table);
+    }
+    table.files = files;
+    table.records = records;
+    table
+}
+
+/// Files and records around the limit of 16,777,216 bytes.
+fn large_cases(random: &mut Random) -> Table {
+    let mut table = Table::default();
+    let mut rooms = Rooms::new(random, plain::MAX_FILE + 64);
+    above_limit(random, &mut rooms, &mut table);
+    for size in [plain::MAX_FILE, plain::MAX_FILE - 1, 5_000_000] {
+        for file in [
+            large::long_buffer(0)[..size].to_vec(),
+            large::long_payload(size),
+        ] {
+            held::read(&file, random, &mut table);
+            held::canonical(&file, &mut rooms, random, &mut table);
+            table.files += 1;
+        }
+    }
+    let source = random.bytes(1_000_000);
+    for i in 0..500 {
+        let case = large::record_at_limit(random, source.clone());
+        // Most need no buffer: 1 comes before 20.
+        let room = if i < 6 { plain::MAX_FILE } else { i };
+        held::write_in(&case, room, &mut rooms, random, &mut table);
+        table.records += 1;
+    }
+    table
+}
+
+fn above_limit(random: &mut Random, rooms: &mut Rooms, table: &mut Table) {
+    let buffer = large::long_buffer(120);
+    for more in 1..=120 {
+        let file = &buffer[..plain::MAX_FILE + more];
+        held::read(file, random, table);
+        held::canonical_in(file, more, rooms, table);
+        table.files += 1;
+    }
+}

@@ -1,0 +1,49 @@
+//! Holds the library's answers to those of plain Rust, number by number and byte by byte.
+
+mod canonical;
+mod read;
+mod rooms;
+mod table;
+mod write;
+
+pub use canonical::{canonical, canonical_in};
+pub use read::read;
+pub use rooms::Rooms;
+pub use table::{Call, Table};
+pub use write::{write, write_in};
+
+use bpg::Refusal;
+
+/// A status and its offset, as the static library answers them.
+fn status<T>(answer: &Result<T, Refusal>) -> (u8, usize) {
+    match answer {
+        Ok(_) => (0, 0),
+        Err(refusal) => (refusal.number(), refusal.offset),
+    }
+}
+
+/// Fails with the case in hex where the answers differ.
+#[track_caller]
+fn same<T: PartialEq + std::fmt::Debug>(
+    what: &str,
+    case: &dyn Fn() -> String,
+    library: T,
+    plain: T,
+) {
+    if library != plain {
+        panic!(
+            "{what} differs\n{}\nlibrary: {library:?}\nplain:   {plain:?}",
+            case()
+        );
+    }
+}
+
+/// Bytes in hex; of a large file the start, since the seed gives the rest again.
+fn hex(bytes: &[u8]) -> String {
+    let shown = &bytes[..bytes.len().min(100_000)];
+    let mut text: String = shown.iter().map(|byte| format!("{byte:02x}")).collect();
+    if shown.len() < bytes.len() {
+        text += &format!(".. ({} bytes)", bytes.len());
+    }
+    text
+}

@@ -1,0 +1,71 @@
+//! Reading: the record, entries by index, payloads and data.
+
+use bpg::{Entry, Record};
+
+use super::{hex, same, status, Call, Table};
+use crate::cases::Random;
+use crate::plain::{self, NUMBERS};
+
+/// Numbers of a longer list that stay as they are.
+const MORE: usize = 3;
+
+pub fn read(file: &[u8], random: &mut Random, table: &mut Table) {
+    let case = || format!("file: {}", hex(file));
+    let before: [u64; NUMBERS + MORE] = std::array::from_fn(|_| random.next());
+    let number = read_in(file, &before, &case);
+    table.count(Call::Read, number);
+    read_in(file, &before[..random.below(before.len())], &case);
+    let record = plain::read(file);
+    same("the record", &case, bpg::read(file), record);
+    parts(file, &record.unwrap_or_default(), random, &case);
+}
+
+/// Both answers into lists with these numbers, and the status.
+fn read_in(file: &[u8], before: &[u64], case: &dyn Fn() -> String) -> u8 {
+    let lists = &mut [[0; NUMBERS + MORE]; 2];
+    let [list, expected] = lists.each_mut().map(|list| &mut list[..before.len()]);
+    list.copy_from_slice(before);
+    expected.copy_from_slice(before);
+    let answer = plain::read_list(file, expected);
+    let (number, offset) = bpg::ffi::read(file, list);
+    same("the status", case, (number, offset), status(&answer));
+    same("the list", case, &*list, &*expected);
+    if number != 0 {
+        same("the list after a refusal", case, &*list, before);
+    }
+    number
+}
+
+/// The parts of a file; those of a refused one are the zero record's.
+fn parts(file: &[u8], record: &Record, random: &mut Random, case: &dyn Fn() -> String) {
+    let used = &record.entries[..record.entry_count as usize];
+    for (k, entry) in used.iter().enumerate() {
+        part(file, k, Some(*entry), case);
+    }
+    part(file, used.len(), None, case);
+    // Far past the last, too: an index cut to fewer bits would find an entry.
+    let far = random.below(used.len() + 1) + (1 << random.within(5, usize::BITS as usize - 1));
+    part(file, far, None, case);
+    let mut walk = bpg::entries(file);
+    for entry in used {
+        same("the walk", case, walk.next(), Some(*entry));
+    }
+    same("the walk's end", case, walk.next(), None);
+    same("after the walk's end", case, walk.next(), None);
+    let data = &file[record.data.range()];
+    same_part("the data", case, bpg::data(file), data);
+}
+
+fn part(file: &[u8], k: usize, entry: Option<Entry>, case: &dyn Fn() -> String) {
+    same("an entry", case, bpg::entry(file, k), entry);
+    let Entry { tag, payload } = entry.unwrap_or_default();
+    let numbers = (entry.is_some(), [tag, payload.start, payload.length]);
+    same("its numbers", case, bpg::ffi::entry(file, k), numbers);
+    let range = payload.range();
+    same_part("a payload", case, bpg::payload(file, k), &file[range]);
+}
+
+/// The same bytes at the same place: nothing was copied.
+fn same_part(what: &str, case: &dyn Fn() -> String, library: &[u8], plain: &[u8]) {
+    same(what, case, library.as_ptr_range(), plain.as_ptr_range());
+}

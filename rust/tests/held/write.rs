@@ -1,0 +1,55 @@
+//! Writing records, in buffers of the right size, smaller and larger.
+
+use super::{hex, same, status, Call, Rooms, Table};
+use crate::cases::records::Case;
+use crate::cases::Random;
+use crate::plain;
+
+/// More bytes than the head and headers of a file have.
+const HEAD: usize = 200;
+
+pub fn write(case: &Case, rooms: &mut Rooms, random: &mut Random, table: &mut Table) {
+    // Ranges may overlap: a file can have each of its 17 parts as long as the source.
+    let enough = 17 * (case.source.len() + 10) + HEAD;
+    let larger = enough.min(rooms.size());
+    let Some(size) = write_in(case, larger, rooms, random, table) else {
+        write_in(case, random.below(larger), rooms, random, table);
+        return;
+    };
+    write_in(case, size, rooms, random, table);
+    write_in(case, size - 1, rooms, random, table);
+    let larger = (size + random.within(1, 9)).min(rooms.size());
+    write_in(case, larger, rooms, random, table);
+}
+
+/// Both answers into buffers of `room` bytes, and the size of the file.
+pub fn write_in(
+    case: &Case,
+    room: usize,
+    rooms: &mut Rooms,
+    random: &mut Random,
+    table: &mut Table,
+) -> Option<usize> {
+    let (numbers, source) = (case.numbers.as_slice(), &case.source);
+    let text = || {
+        let source = hex(source);
+        format!("written into {room} bytes: {numbers:?}\nsource: {source}")
+    };
+    let pair = rooms.pair(room);
+    let expected = plain::write_list(numbers, source, pair.plain);
+    let (number, count) = bpg::ffi::write(numbers, source, pair.library);
+    same("the status", &text, (number, 0), status(&expected));
+    same("the count", &text, count, expected.unwrap_or(0));
+    same("a byte of the buffer", &text, pair.fault(count), None);
+    table.count(Call::Write, number);
+    if let Some(mut record) = plain::record_of(numbers) {
+        // The coded size is not looked at.
+        record.coded_width = random.next();
+        record.coded_height = random.next();
+        let wrapped = bpg::write(&record, source, pair.library);
+        let expected = plain::write(&record, source, pair.plain);
+        same("the wrapper's answer", &text, wrapped, expected);
+        same("a byte afterwards", &text, pair.fault(count), None);
+    }
+    expected.ok()
+}

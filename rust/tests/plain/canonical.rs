@@ -1,0 +1,37 @@
+//! The canonical form of a file: its record with the one choice of each spelling, written again.
+
+use bpg::{HevcHeader, Record, Refusal};
+
+use super::reader::read;
+use super::writer::{store, ue7_size};
+
+/// The canonical form into `out`, and its size.
+pub fn canonicalize(file: &[u8], out: &mut [u8]) -> Result<usize, Refusal> {
+    let mut record = read(file)?;
+    choose(&mut record);
+    store(&record, file, out)
+}
+
+/// Takes the canonical choices. Where there are entries, or flags, their presence flag is set already.
+fn choose(record: &mut Record) {
+    record.explicit_length = false;
+    record.extension_present_flag = record.entry_count != 0;
+    choose_header(&mut record.alpha_header);
+    choose_header(&mut record.color_header);
+    let numbers = [
+        record.loop_count,
+        record.frame_period_num,
+        record.frame_period_den,
+    ];
+    let used = &mut record.entries[..record.entry_count as usize];
+    if let Some(control) = used.iter_mut().find(|entry| entry.tag == 5) {
+        let length: u64 = numbers.iter().map(|&n| ue7_size(n.into())).sum();
+        control.payload.length = length as u32;
+    }
+}
+
+fn choose_header(header: &mut HevcHeader) {
+    let any = header.range_flags != [false; 9];
+    header.sps_extension_present_flag = any;
+    header.sps_range_extension_flag = any;
+}

@@ -1,0 +1,26 @@
+//! An independent reader, writer and canonicalizer in plain Rust, made from the papers alone and not
+//! from the proved library. The comparison holds the library to it, and it is the benchmark's baseline.
+
+mod bits;
+mod canonical;
+mod check;
+mod cursor;
+mod encode;
+mod header;
+mod list;
+mod reader;
+mod writer;
+
+pub use canonical::canonicalize;
+pub use list::{read_list, record_of, NUMBERS, RECORD};
+pub use reader::read;
+pub use writer::{write, write_list};
+
+use bpg::{Reason, Refusal};
+
+/// The most bytes that a file may have.
+pub const MAX_FILE: usize = 16_777_216;
+
+fn refuse<T>(reason: Reason, offset: usize) -> Result<T, Refusal> {
+    Err(Refusal { reason, offset })
+}
