@@ -1,0 +1,3 @@
+-- Laws of the lists of numbers, and of the calls over them.
+pub mod NumberLaws
+pub mod CallLaws
