@@ -1,0 +1,32 @@
+-- `bpg_entry` meets its contract. Assumes nothing.
+use mathlib.Core.Path.{sym, _∙_}
+use Rattle.bpg_reader.specs.declared.parts.EntryAt.{EntryAt}
+use Rattle.bpg_export.proofs.CallLaws.{answered}
+use borrow.Author.Needs.{needs}
+use Rattle.bpg_export.proofs.bpg_entry.Statement.{statement}
+use Rattle.bpg_export.proofs.bpg_entry.Tie as tie
+
+entry-at-requires : tie.Need-entry-at-requires
+entry-at-requires c κs = search needs
+
+enum-told : tie.Need-enum-told
+enum-told c = search needs
+
+enum-known-entry : tie.Need-enum-known-entry
+enum-known-entry c = search needs
+
+returns : tie.Need-returns
+returns c =
+    let r = c .before .before in
+    let e = sym (c .enum-told .given .1) ∙ r .entry-at .ensures in
+    answered _ _ EntryAt.Absent e
+
+returns-2 : tie.Need-returns-2
+returns-2 c =
+    let r = c .before .before .before in
+    let e = sym (c .before .entry .given .1) ∙ r .entry-at .ensures in
+    answered _ _ (EntryAt.Found _) e
+
+pub bpg-entry-spec : {M : Type 1} → statement M
+bpg-entry-spec =
+    tie.close (tie.spec entry-at-requires enum-told enum-known-entry returns returns-2)

@@ -1,0 +1,20 @@
+-- `bpg_write` meets its contract. Assumes nothing.
+use mathlib.Core.Path.{ap}
+use Rattle.bpg_format.specs.declared.answer.Written.{Written}
+use borrow.Author.Needs.{needs}
+use Rattle.bpg_export.proofs.bpg_write.Statement.{statement}
+use Rattle.bpg_export.proofs.bpg_write.Tie as tie
+
+write-requires : tie.Need-write-requires
+write-requires c κs = search needs
+
+same-length : tie.Need-same-length
+same-length c = search needs
+
+returns : tie.Need-returns
+returns c =
+    let e = c .before .before .write .ensures in
+    (ap (λ (w : Written). w .status) (e .0), (ap (λ (w : Written). w .count) (e .0), e .1))
+
+pub bpg-write-spec : {M : Type 1} → statement M
+bpg-write-spec = tie.close (tie.spec write-requires same-length returns)

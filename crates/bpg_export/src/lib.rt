@@ -1,0 +1,85 @@
+// The library for C and Rust: numbers and slices alone. include/bpg.h declares these functions for C.
+mod file;
+mod list;
+mod record;
+
+use bpg_reader::EntryAt;
+ghost use mathlib.Core.Path.{_≡_};
+ghost use lib.Dec.{ltb};
+ghost use Rattle.bpg_format.specs.Records.{readFile};
+ghost use Rattle.bpg_format.specs.Parts.{entryOf};
+ghost use Rattle.bpg_format.specs.Pictures.{canonicalFile, canonicalBuffer};
+ghost use Rattle.bpg_export.specs.Calls.{readAnswer, readNumbers, writeAnswer, writeBytes};
+
+// Reads a file: status and offset, and the 117 numbers of its record and coded size.
+#[no_mangle]
+pub extern "C" fn bpg_read(file: &[u8], numbers: &mut [u64], offset: &mut usize) -> u8
+    ensures { λ r. ⌜ r ≡ readAnswer (now (file .entry)) (now (numbers .entry)) .status ⌝ }
+    ensures { λ _. ⌜ now (offset .exit) ≡ readAnswer (now (file .entry)) (now (numbers .entry)) .offset ⌝ }
+    ensures { λ _. ⌜ now (numbers .exit) ≡ readNumbers (now (file .entry)) (now (numbers .entry)) ⌝ }
+{
+    let answer = file::read(file, numbers);
+    *offset = answer.offset;
+    answer.status
+}
+
+// Tag and range of entry k, from 0; false and zeros where there is none. A refused file has no entry.
+#[no_mangle]
+pub extern "C" fn bpg_entry(
+    file: &[u8],
+    k: usize,
+    tag: &mut u32,
+    start: &mut u32,
+    length: &mut u32,
+) -> bool
+    ensures { λ r. ⌜ r ≡ ltb k (readFile (now (file .entry)) .«record» .«entry_count») ⌝ }
+    ensures { λ _. ⌜ now (tag .exit) ≡ entryOf (now (file .entry)) k .tag ⌝ }
+    ensures { λ _. ⌜ now (start .exit) ≡ entryOf (now (file .entry)) k .payload .start ⌝ }
+    ensures { λ _. ⌜ now (length .exit) ≡ entryOf (now (file .entry)) k .payload .length ⌝ }
+{
+    match bpg_reader::entry_at(file, k) {
+        EntryAt::Absent => {
+            *tag = 0;
+            *start = 0;
+            *length = 0;
+            false
+        }
+        EntryAt::Found(entry) => {
+            *tag = entry.tag;
+            *start = entry.payload.start;
+            *length = entry.payload.length;
+            true
+        }
+    }
+}
+
+// Writes the file of a record, given as its 115 numbers, whose ranges are in `source`, from the start of `out`: status and count.
+#[no_mangle]
+pub extern "C" fn bpg_write(numbers: &[u64], source: &[u8], out: &mut [u8], count: &mut usize) -> u8
+    ensures { λ r. ⌜ r ≡ writeAnswer (now (numbers .entry)) (now (source .entry)) (now (out .entry)) .status ⌝ }
+    ensures { λ _. ⌜ now (count .exit) ≡ writeAnswer (now (numbers .entry)) (now (source .entry)) (now (out .entry)) .count ⌝ }
+    ensures { λ _. ⌜ now (out .exit) ≡ writeBytes (now (numbers .entry)) (now (source .entry)) (now (out .entry)) ⌝ }
+{
+    let answer = file::write(numbers, source, out);
+    *count = answer.count;
+    answer.status
+}
+
+// Writes the canonical form of a file from the start of `out`: status, count and offset.
+#[no_mangle]
+pub extern "C" fn bpg_canonicalize(
+    file: &[u8],
+    out: &mut [u8],
+    count: &mut usize,
+    offset: &mut usize,
+) -> u8
+    ensures { λ r. ⌜ r ≡ canonicalFile (now (file .entry)) (now (out .entry)) .status ⌝ }
+    ensures { λ _. ⌜ now (count .exit) ≡ canonicalFile (now (file .entry)) (now (out .entry)) .count ⌝ }
+    ensures { λ _. ⌜ now (offset .exit) ≡ canonicalFile (now (file .entry)) (now (out .entry)) .offset ⌝ }
+    ensures { λ _. ⌜ now (out .exit) ≡ canonicalBuffer (now (file .entry)) (now (out .entry)) ⌝ }
+{
+    let answer = bpg_canonical::canonicalize(file, out);
+    *count = answer.count;
+    *offset = answer.offset;
+    answer.status
+}
