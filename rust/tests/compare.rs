@@ -11,12 +11,12 @@ use std::env;
 use std::thread;
 
 use cases::{large, records, Random};
-use held::{Rooms, Table};
+use held::{Buffers, Table};
 
 const THREADS: u64 = 2;
 
 /// Longer than any file of a case that is not one of the large.
-const ROOM: usize = 1 << 20;
+const CAPACITY: usize = 1 << 20;
 
 #[test]
 fn the_library_agrees_with_plain_rust() {
@@ -49,15 +49,15 @@ fn setting(name: &str, default: u64) -> u64 {
 
 fn run(mut random: Random, files: u64, records: u64) -> Table {
     let mut table = Table::default();
-    let mut rooms = Rooms::new(&mut random, ROOM);
+    let mut buffers = Buffers::new(&mut random, CAPACITY);
     for _ in 0..files {
         let file = cases::file(&mut random);
         held::read(&file, &mut random, &mut table);
-        held::canonical(&file, &mut rooms, &mut random, &mut table);
+        held::canonical(&file, &mut buffers, &mut random, &mut table);
     }
     for _ in 0..records {
         let case = records::case(&mut random);
-        held::write(&case, &mut rooms, &mut random, &mut table);
+        held::write(&case, &mut buffers, &mut random, &mut table);
     }
     table.files = files;
     table.records = records;
@@ -67,15 +67,15 @@ fn run(mut random: Random, files: u64, records: u64) -> Table {
 /// Files and records around the limit of 16,777,216 bytes.
 fn large_cases(random: &mut Random) -> Table {
     let mut table = Table::default();
-    let mut rooms = Rooms::new(random, plain::MAX_FILE + 64);
-    above_limit(random, &mut rooms, &mut table);
+    let mut buffers = Buffers::new(random, plain::MAX_FILE + 64);
+    above_limit(random, &mut buffers, &mut table);
     for size in [plain::MAX_FILE, plain::MAX_FILE - 1, 5_000_000] {
         for file in [
             large::long_buffer(0)[..size].to_vec(),
             large::long_payload(size),
         ] {
             held::read(&file, random, &mut table);
-            held::canonical(&file, &mut rooms, random, &mut table);
+            held::canonical(&file, &mut buffers, random, &mut table);
             table.files += 1;
         }
     }
@@ -83,19 +83,19 @@ fn large_cases(random: &mut Random) -> Table {
     for i in 0..500 {
         let case = large::record_at_limit(random, source.clone());
         // Most need no buffer: 1 comes before 20.
-        let room = if i < 6 { plain::MAX_FILE } else { i };
-        held::write_in(&case, room, &mut rooms, random, &mut table);
+        let capacity = if i < 6 { plain::MAX_FILE } else { i };
+        held::write_in(&case, capacity, &mut buffers, random, &mut table);
         table.records += 1;
     }
     table
 }
 
-fn above_limit(random: &mut Random, rooms: &mut Rooms, table: &mut Table) {
+fn above_limit(random: &mut Random, buffers: &mut Buffers, table: &mut Table) {
     let buffer = large::long_buffer(120);
     for more in 1..=120 {
         let file = &buffer[..plain::MAX_FILE + more];
         held::read(file, random, table);
-        held::canonical_in(file, more, rooms, table);
+        held::canonical_in(file, more, buffers, table);
         table.files += 1;
     }
 }

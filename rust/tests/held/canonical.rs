@@ -1,30 +1,30 @@
 //! The canonical form, in buffers of the right size, smaller and larger.
 
-use super::{hex, same, status, Call, Rooms, Table};
+use super::{hex, same, status, Buffers, Call, Table};
 use crate::cases::Random;
 use crate::plain;
 
-pub fn canonical(file: &[u8], rooms: &mut Rooms, random: &mut Random, table: &mut Table) {
+pub fn canonical(file: &[u8], buffers: &mut Buffers, random: &mut Random, table: &mut Table) {
     let larger = file.len() + random.within(1, 9);
-    let Some(size) = canonical_in(file, larger, rooms, table) else {
-        canonical_in(file, random.below(larger), rooms, table);
+    let Some(size) = canonical_in(file, larger, buffers, table) else {
+        canonical_in(file, random.below(larger), buffers, table);
         return;
     };
-    canonical_in(file, size, rooms, table);
-    canonical_in(file, size - 1, rooms, table);
-    canonical_in(file, random.below(size), rooms, table);
-    twice(file, size, rooms, table);
+    canonical_in(file, size, buffers, table);
+    canonical_in(file, size - 1, buffers, table);
+    canonical_in(file, random.below(size), buffers, table);
+    twice(file, size, buffers, table);
 }
 
-/// Both answers into buffers of `room` bytes, and the size of the form.
+/// Both answers into buffers of `capacity` bytes, and the size of the form.
 pub fn canonical_in(
     file: &[u8],
-    room: usize,
-    rooms: &mut Rooms,
+    capacity: usize,
+    buffers: &mut Buffers,
     table: &mut Table,
 ) -> Option<usize> {
-    let case = || format!("canonical form in {room} bytes of file: {}", hex(file));
-    let pair = rooms.pair(room);
+    let case = || format!("canonical form in {capacity} bytes of file: {}", hex(file));
+    let pair = buffers.pair(capacity);
     let expected = plain::canonicalize(file, pair.plain);
     let (number, count, offset) = bpg::ffi::canonicalize(file, pair.library);
     same("the status", &case, (number, offset), status(&expected));
@@ -38,13 +38,13 @@ pub fn canonical_in(
 }
 
 /// The canonical form of the canonical form is itself.
-fn twice(file: &[u8], size: usize, rooms: &mut Rooms, table: &mut Table) {
+fn twice(file: &[u8], size: usize, buffers: &mut Buffers, table: &mut Table) {
     let case = || format!("canonical form twice of file: {}", hex(file));
     let mut once = vec![0; size];
     let count = bpg::canonicalize(file, &mut once);
     same("the count", &case, count, Ok(size));
-    let again = canonical_in(&once, size, rooms, table);
+    let again = canonical_in(&once, size, buffers, table);
     same("the second count", &case, again, Some(size));
-    let fixed = rooms.library(size) == once;
+    let fixed = buffers.library(size) == once;
     same("the second form", &case, fixed, true);
 }

@@ -1,14 +1,14 @@
 //! Holds the library's answers to those of plain Rust, number by number and byte by byte.
 
+mod buffers;
 mod canonical;
 mod read;
-mod rooms;
 mod table;
 mod write;
 
+pub use buffers::Buffers;
 pub use canonical::{canonical, canonical_in};
 pub use read::read;
-pub use rooms::Rooms;
 pub use table::{Call, Table};
 pub use write::{write, write_in};
 

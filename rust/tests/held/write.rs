@@ -1,6 +1,6 @@
 //! Writing records, in buffers of the right size, smaller and larger.
 
-use super::{hex, same, status, Call, Rooms, Table};
+use super::{hex, same, status, Buffers, Call, Table};
 use crate::cases::records::Case;
 use crate::cases::Random;
 use crate::plain;
@@ -8,34 +8,34 @@ use crate::plain;
 /// More bytes than the head and headers of a file have.
 const HEAD: usize = 200;
 
-pub fn write(case: &Case, rooms: &mut Rooms, random: &mut Random, table: &mut Table) {
+pub fn write(case: &Case, buffers: &mut Buffers, random: &mut Random, table: &mut Table) {
     // Ranges may overlap: a file can have each of its 17 parts as long as the source.
     let enough = 17 * (case.source.len() + 10) + HEAD;
-    let larger = enough.min(rooms.size());
-    let Some(size) = write_in(case, larger, rooms, random, table) else {
-        write_in(case, random.below(larger), rooms, random, table);
+    let larger = enough.min(buffers.size());
+    let Some(size) = write_in(case, larger, buffers, random, table) else {
+        write_in(case, random.below(larger), buffers, random, table);
         return;
     };
-    write_in(case, size, rooms, random, table);
-    write_in(case, size - 1, rooms, random, table);
-    let larger = (size + random.within(1, 9)).min(rooms.size());
-    write_in(case, larger, rooms, random, table);
+    write_in(case, size, buffers, random, table);
+    write_in(case, size - 1, buffers, random, table);
+    let larger = (size + random.within(1, 9)).min(buffers.size());
+    write_in(case, larger, buffers, random, table);
 }
 
-/// Both answers into buffers of `room` bytes, and the size of the file.
+/// Both answers into buffers of `capacity` bytes, and the size of the file.
 pub fn write_in(
     case: &Case,
-    room: usize,
-    rooms: &mut Rooms,
+    capacity: usize,
+    buffers: &mut Buffers,
     random: &mut Random,
     table: &mut Table,
 ) -> Option<usize> {
     let (numbers, source) = (case.numbers.as_slice(), &case.source);
     let text = || {
         let source = hex(source);
-        format!("written into {room} bytes: {numbers:?}\nsource: {source}")
+        format!("written into {capacity} bytes: {numbers:?}\nsource: {source}")
     };
-    let pair = rooms.pair(room);
+    let pair = buffers.pair(capacity);
     let expected = plain::write_list(numbers, source, pair.plain);
     let (number, count) = bpg::ffi::write(numbers, source, pair.library);
     same("the status", &text, (number, 0), status(&expected));

@@ -3,7 +3,7 @@
 use crate::cases::Random;
 
 /// Two buffers of the same size, and the bytes that they had.
-pub struct Rooms {
+pub struct Buffers {
     before: Vec<u8>,
     library: Vec<u8>,
     plain: Vec<u8>,
@@ -16,10 +16,10 @@ pub struct Pair<'a> {
     pub plain: &'a mut [u8],
 }
 
-impl Rooms {
-    pub fn new(random: &mut Random, size: usize) -> Rooms {
+impl Buffers {
+    pub fn new(random: &mut Random, size: usize) -> Buffers {
         let before = random.bytes(size);
-        Rooms {
+        Buffers {
             library: before.clone(),
             plain: before.clone(),
             before,
