@@ -1,6 +1,5 @@
 -- A record's list in parts, lists compared, and a list's entries. Assumes nothing.
-use mathlib.Core.Path.{_≡_, refl, sym, ap, ap₂, _∙_, subst}
-use mathlib.Core.Logic.{_≢_}
+use mathlib.Core.Path.{_≡_, refl, sym, ap, ap₂, _∙_}
 use mathlib.Core.Bool.{Bool, true, false, _&&_}
 use mathlib.Core.List.{List, [], _∷_, _++_, map, append-assoc, append-nil}
 use Prim.Native.Nat.{ℕ, zero, suc, _+_, _*_, _≤_, _<_}
@@ -9,7 +8,6 @@ use native.Mathlib.Omega.{arith}
 use lib.Dec.{eqb}
 use lib.ListN.{length, take, drop, getD, length-append, length-map, drop-of-length-le}
 use lib.Seq.{length-take-le, take-all, drop-length, take-suc, drop-cons}
-use borrow.Author.Tests.{eq-eqb, ne-eqb}
 use mir.Val.{boolByte}
 use Rattle.bpg_codec.specs.Bits.{bit}
 use Rattle.bpg_codec.specs.Buffer.{written}
