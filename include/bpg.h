@@ -1,12 +1,14 @@
-/* Reading, writing and canonicalizing BPG files: the library libbpg_export.a (rt staticlib bpg_export).
+/* Reading, writing and canonicalizing BPG files: the library libbpg_export.a, which `rt staticlib bpg_export` makes.
  *
- * The functions are proved in crates/bpg_export, for every input. The proof does not cover
- *   - a pointer that is null (pass any valid address with a length of 0), or memory that is shorter than its length says;
- *   - memory that overlaps: out with file, source or numbers, or a result's pointer with anything else that is passed;
+ * What each function answers is proved in crates/bpg_export, for every input. The proof does not cover
+ *   - a pointer that is null or not aligned (with a length of 0 pass any valid address), or memory that is shorter than its length says;
+ *   - memory that is written and overlaps anything else that is passed: out, or the list of bpg_read, with file, source or numbers; the
+ *     results (*offset, *count, *tag, *start, *length) with each other or with these;
  *   - memory that another thread changes during a call;
  *   - this header: nothing checks it against the library's source.
  *
- * A call answers a status: 0, or a refusal number (enum bpg_status). A refusal leaves the buffer, or the list of numbers, as it was. */
+ * A call answers a status: 0, or a refusal number (enum bpg_status). A refusal leaves the buffer, or the list of numbers, as it was.
+ * Every result is always written. */
 #ifndef BPG_H
 #define BPG_H
 

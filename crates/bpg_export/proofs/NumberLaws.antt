@@ -1,6 +1,5 @@
 -- A record's list in parts, lists compared, and a list's entries. Assumes nothing.
-use mathlib.Core.Path.{_≡_, refl, sym, ap, ap₂, _∙_, subst}
-use mathlib.Core.Logic.{_≢_}
+use mathlib.Core.Path.{_≡_, refl, sym, ap, ap₂, _∙_}
 use mathlib.Core.Bool.{Bool, true, false, _&&_}
 use mathlib.Core.List.{List, [], _∷_, _++_, map, append-assoc, append-nil}
 use Prim.Native.Nat.{ℕ, zero, suc, _+_, _*_, _≤_, _<_}
@@ -9,7 +8,6 @@ use native.Mathlib.Omega.{arith}
 use lib.Dec.{eqb}
 use lib.ListN.{length, take, drop, getD, length-append, length-map, drop-of-length-le}
 use lib.Seq.{length-take-le, take-all, drop-length, take-suc, drop-cons}
-use borrow.Author.Tests.{eq-eqb, ne-eqb}
 use mir.Val.{boolByte}
 use Rattle.bpg_codec.specs.Bits.{bit}
 use Rattle.bpg_codec.specs.Buffer.{written}
@@ -170,18 +168,19 @@ begins-short (x ∷ a) (y ∷ l) h = rw (begins-short a l (omega arith)) (and-fa
     and-false false = refl
 
 module _ (a l : List ℕ) (k : ℕ) where
-  pub begins-end : length a ≤ k → beginsWith (drop k a) (drop k l) ≡ true
+  pub begins-end : (s : Bool) → length a ≤ k → (s && beginsWith (drop k a) (drop k l)) ≡ s
   unfolding beginsWith
-  begins-end h = rw (drop-of-length-le a h)
+  begins-end true h = rw (drop-of-length-le a h)
+  begins-end false h = refl
 
-  module _ (h : k < length a) (j : k < length l) where
-    pub begins-other : getD a k 0 ≢ getD l k 0 → beginsWith (drop k a) (drop k l) ≡ false
-    unfolding beginsWith
-    begins-other n = rw (drop-cons a k 0, drop-cons l k 0, ne-eqb _ _ n)
-
-    pub begins-same : getD a k 0 ≡ getD l k 0 → beginsWith (drop k a) (drop k l) ≡ beginsWith (drop (k + 1) a) (drop (k + 1) l)
-    unfolding beginsWith
-    begins-same e = rw (add-one, drop-cons a k 0, drop-cons l k 0, eq-eqb _ _ e)
+  pub begins-next : (s : Bool) → k < length a → k < length l
+      → (s && beginsWith (drop k a) (drop k l)) ≡ ((s && eqb (getD a k 0) (getD l k 0)) && beginsWith (drop (k + 1) a) (drop (k + 1) l))
+  unfolding beginsWith
+  begins-next s h j = rw (add-one, drop-cons a k 0, drop-cons l k 0) (sym (and-assoc s (eqb (getD a k 0) (getD l k 0)) (beginsWith (drop (suc k) a) (drop (suc k) l))))
+    where
+      and-assoc : (x y z : Bool) → ((x && y) && z) ≡ (x && (y && z))
+      and-assoc true y z = refl
+      and-assoc false y z = refl
 
 -- ---- the entries of a list
 

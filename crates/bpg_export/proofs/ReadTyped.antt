@@ -1,5 +1,5 @@
 -- A record that was read is one that its types hold. Assumes nothing.
-use mathlib.Core.Path.{_≡_, refl, sym, ap, _∙_, subst}
+use mathlib.Core.Path.{_≡_, refl, sym, ap, subst}
 use mathlib.Core.Bool.{Bool, true, false, _||_}
 use mathlib.Core.List.{List, [], _∷_, _++_, map}
 use Prim.Native.Nat.{ℕ, _+_, _-_, _^_, _≤_, _<_}
@@ -11,13 +11,12 @@ use Rattle.bpg_codec.specs.Outcome.{Outcome, ok, error}
 use Rattle.bpg_format.specs.Limits.{maxEntries, maxFile}
 use Rattle.bpg_format.specs.declared.record.Entry.{Entry}
 use Rattle.bpg_format.specs.declared.record.Header.{Header}
-use Rattle.bpg_format.specs.declared.record.Record.{Record}
 use Rattle.bpg_format.specs.Zero.{zeroEntry, zeroHeader, zeroRecord}
 use Rattle.bpg_format.specs.Content.{Extension, Loop, Content, hasAlpha, bitDepth}
 use Rattle.bpg_format.specs.Syntax.{fileOf}
-use Rattle.bpg_format.specs.Rules.{isLoop, hasLoop, noLoop, LoopPayload, ExtensionRules, HeaderRules, Rules}
+use Rattle.bpg_format.specs.Rules.{isLoop, hasLoop, ExtensionRules, HeaderRules, Rules}
 use Rattle.bpg_format.specs.Read.{readContent}
-use Rattle.bpg_format.specs.Records.{entriesAt, padEntries, blockStart, extensionOf, usedEntries, contentOf, answerOf, readFile, recordOf as contentRecord}
+use Rattle.bpg_format.specs.Records.{entriesAt, blockStart, extensionOf, usedEntries, contentOf, answerOf, readFile, recordOf as contentRecord}
 use Rattle.bpg_format.specs.Write.{Writable}
 use Rattle.bpg_format.proofs.RecordLaws.{entries-length, content-record}
 use Rattle.bpg_format.proofs.Reading.{read-is}

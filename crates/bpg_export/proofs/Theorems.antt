@@ -9,15 +9,14 @@ use lib.Dec.{leb, eqb, eqb→eq, T}
 use lib.ListN.{length, drop, length-append}
 use borrow.Author.Tests.{le-leb, eq-eqb}
 use Rattle.bpg_codec.specs.Bits.{bit}
-use Rattle.bpg_codec.specs.Lawful.{All, Byte}
-use Rattle.bpg_codec.specs.Outcome.{Outcome, ok, error, _>>=_, guard}
+use Rattle.bpg_codec.specs.Lawful.{All}
+use Rattle.bpg_codec.specs.Outcome.{Outcome, ok}
 use Rattle.bpg_format.specs.declared.record.Entry.{Entry}
-use Rattle.bpg_format.specs.declared.record.Header.{Header}
 use Rattle.bpg_format.specs.declared.record.Record.{Record}
 use Rattle.bpg_format.specs.declared.answer.Reading.{Reading}
 use Rattle.bpg_format.specs.Records.{readFile}
 use Rattle.bpg_format.specs.Write.{writeOutcome, writtenAnswer, writtenBuffer, writeFile, writeBuffer}
-use Rattle.bpg_export.specs.Numbers.{recordLength, readingLength, entryNumbers, numbersOf, readingNumbers, u32At, entryAt, entriesAt, rangeFlagsAt, headerAt, recordOf, beginsWith, numbersFit}
+use Rattle.bpg_export.specs.Numbers.{recordLength, readingLength, entryNumbers, numbersOf, readingNumbers, entriesAt, rangeFlagsAt, headerAt, recordOf, beginsWith, numbersFit}
 use Rattle.bpg_export.specs.Typing.{OfBits, TypedHeader, TypedRecord}
 use Rattle.bpg_export.specs.Calls.{listed, readAnswer, readNumbers, listOutcome, writeAnswer, writeBytes}
 use Rattle.bpg_export.specs.Theorems.{ListOf, ListTheorems}

@@ -18,9 +18,9 @@ pub extern "C" fn bpg_read(file: &[u8], numbers: &mut [u64], offset: &mut usize)
     ensures { λ _. ⌜ now (offset .exit) ≡ readAnswer (now (file .entry)) (now (numbers .entry)) .offset ⌝ }
     ensures { λ _. ⌜ now (numbers .exit) ≡ readNumbers (now (file .entry)) (now (numbers .entry)) ⌝ }
 {
-    let answer = file::read(file, numbers);
-    *offset = answer.offset;
-    answer.status
+    let read = file::read(file, numbers);
+    *offset = read.offset;
+    read.status
 }
 
 // Tag and range of entry k, from 0; false and zeros where there is none. A refused file has no entry.
@@ -60,9 +60,9 @@ pub extern "C" fn bpg_write(numbers: &[u64], source: &[u8], out: &mut [u8], coun
     ensures { λ _. ⌜ now (count .exit) ≡ writeAnswer (now (numbers .entry)) (now (source .entry)) (now (out .entry)) .count ⌝ }
     ensures { λ _. ⌜ now (out .exit) ≡ writeBytes (now (numbers .entry)) (now (source .entry)) (now (out .entry)) ⌝ }
 {
-    let answer = file::write(numbers, source, out);
-    *count = answer.count;
-    answer.status
+    let written = file::write(numbers, source, out);
+    *count = written.count;
+    written.status
 }
 
 // Writes the canonical form of a file from the start of `out`: status, count and offset.
@@ -78,8 +78,8 @@ pub extern "C" fn bpg_canonicalize(
     ensures { λ _. ⌜ now (offset .exit) ≡ canonicalFile (now (file .entry)) (now (out .entry)) .offset ⌝ }
     ensures { λ _. ⌜ now (out .exit) ≡ canonicalBuffer (now (file .entry)) (now (out .entry)) ⌝ }
 {
-    let answer = bpg_canonical::canonicalize(file, out);
-    *count = answer.count;
-    *offset = answer.offset;
-    answer.status
+    let canonical = bpg_canonical::canonicalize(file, out);
+    *count = canonical.count;
+    *offset = canonical.offset;
+    canonical.status
 }

@@ -156,21 +156,20 @@ pub(crate) fn write(out: &mut [u64], record: Record)
     put_data(out, data);
 }
 
-// Whether the list begins with `part`.
+// Whether the list begins with `part`. Every number is compared, since a loop without an exit takes several in a step.
 fn begins_with(part: &[u64], numbers: &[u64]) -> bool
     ensures { λ r. ⌜ r ≡ beginsWith (now (part .entry)) (now (numbers .entry)) ⌝ }
 {
     if numbers.len() < part.len() {
         return false;
     }
+    let mut same = true;
     let mut k: usize = 0;
     while k < part.len() {
-        if part[k] != numbers[k] {
-            return false;
-        }
+        same = same & (part[k] == numbers[k]);
         k += 1;
     }
-    true
+    same
 }
 
 // Whether the list begins with the numbers of this record.

@@ -6,46 +6,40 @@ use bpg_format::Range;
 use bpg_format::Record;
 use bpg_format::zero_entry;
 ghost use mathlib.Core.Path.{_≡_};
-ghost use Prim.Native.Nat.{_≤_};
-ghost use lib.ListN.{getD};
-ghost use Rattle.bpg_export.specs.Numbers.{flagAt, u8At, u16At, u32At, rangeAt, entryAt, entriesAt, rangeFlagsAt, headerAt, recordOf};
-
-// Number k of the list. One that is missing counts as 0.
-fn number(numbers: &[u64], k: usize) -> u64
-    ensures { λ r. ⌜ r ≡ getD (now (numbers .entry)) k 0 ⌝ }
-{
-    if numbers.len() <= k {
-        return 0;
-    }
-    numbers[k]
-}
+ghost use Prim.Native.Nat.{_+_, _≤_, _<_};
+ghost use lib.ListN.{length as count};
+ghost use Rattle.bpg_export.specs.Numbers.{recordLength, flagAt, u8At, u16At, u32At, rangeAt, entryAt, entriesAt, rangeFlagsAt, headerAt, recordOf};
 
 fn flag(numbers: &[u64], k: usize) -> bool
+    requires { ⌜ k < count (now numbers) ⌝ }
     ensures { λ r. ⌜ r ≡ flagAt (now (numbers .entry)) k ⌝ }
 {
-    number(numbers, k) % 2 == 1
+    numbers[k] % 2 == 1
 }
 
 fn u8_at(numbers: &[u64], k: usize) -> u8
+    requires { ⌜ k < count (now numbers) ⌝ }
     ensures { λ r. ⌜ r ≡ u8At (now (numbers .entry)) k ⌝ }
 {
-    (number(numbers, k) % 256) as u8
+    (numbers[k] % 256) as u8
 }
 
 fn u16_at(numbers: &[u64], k: usize) -> u16
+    requires { ⌜ k < count (now numbers) ⌝ }
     ensures { λ r. ⌜ r ≡ u16At (now (numbers .entry)) k ⌝ }
 {
-    (number(numbers, k) % 65_536) as u16
+    (numbers[k] % 65_536) as u16
 }
 
 fn u32_at(numbers: &[u64], k: usize) -> u32
+    requires { ⌜ k < count (now numbers) ⌝ }
     ensures { λ r. ⌜ r ≡ u32At (now (numbers .entry)) k ⌝ }
 {
-    (number(numbers, k) % 4_294_967_296) as u32
+    (numbers[k] % 4_294_967_296) as u32
 }
 
 fn range(numbers: &[u64], k: usize) -> Range
-    requires { ⌜ k ≤ 115 ⌝ }
+    requires { ⌜ k + 2 ≤ count (now numbers) ⌝ }
     ensures { λ r. ⌜ r ≡ rangeAt (now (numbers .entry)) k ⌝ }
 {
     Range {
@@ -55,7 +49,7 @@ fn range(numbers: &[u64], k: usize) -> Range
 }
 
 fn entry(numbers: &[u64], k: usize) -> Entry
-    requires { ⌜ k ≤ 60 ⌝ }
+    requires { ⌜ k + 3 ≤ count (now numbers) ⌝ }
     ensures { λ r. ⌜ r ≡ entryAt (now (numbers .entry)) k ⌝ }
 {
     let tag = u32_at(numbers, k);
@@ -64,6 +58,7 @@ fn entry(numbers: &[u64], k: usize) -> Entry
 }
 
 fn entries(numbers: &[u64]) -> [Entry; MAX_ENTRIES]
+    requires { ⌜ recordLength ≤ count (now numbers) ⌝ }
     ensures { λ r. ⌜ r ≡ entriesAt (now (numbers .entry)) 12 16 ⌝ }
 {
     let none = zero_entry();
@@ -77,7 +72,7 @@ fn entries(numbers: &[u64]) -> [Entry; MAX_ENTRIES]
 }
 
 fn range_flags(numbers: &[u64], k: usize) -> [bool; 9]
-    requires { ⌜ k ≤ 104 ⌝ }
+    requires { ⌜ k + 9 ≤ count (now numbers) ⌝ }
     ensures { λ r. ⌜ r ≡ rangeFlagsAt (now (numbers .entry)) k ⌝ }
 {
     [
@@ -94,7 +89,7 @@ fn range_flags(numbers: &[u64], k: usize) -> [bool; 9]
 }
 
 fn header(numbers: &[u64], k: usize) -> Header
-    requires { ⌜ k ≤ 88 ⌝ }
+    requires { ⌜ k + 25 ≤ count (now numbers) ⌝ }
     ensures { λ r. ⌜ r ≡ headerAt (now (numbers .entry)) k ⌝ }
 {
     let range_flags = range_flags(numbers, k + 16);
@@ -120,6 +115,7 @@ fn header(numbers: &[u64], k: usize) -> Header
 }
 
 pub(crate) fn from(numbers: &[u64]) -> Record
+    requires { ⌜ recordLength ≤ count (now numbers) ⌝ }
     ensures { λ r. ⌜ r ≡ recordOf (now (numbers .entry)) ⌝ }
 {
     let entries = entries(numbers);

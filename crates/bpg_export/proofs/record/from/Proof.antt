@@ -1,5 +1,6 @@
 -- `record::from` meets its contract. Assumes nothing.
 use mathlib.Core.List.{[], _∷_}
+use native.Mathlib.Omega.{arith}
 use Rattle.bpg_export.specs.Numbers.{recordOf}
 use borrow.Author.Needs.{needs}
 use Rattle.bpg_export.proofs.record.from.Statement.{statement}
@@ -60,7 +61,7 @@ u16-at-requires-2 : tie.Need-u16-at-requires-2
 u16-at-requires-2 c κs = search needs
 
 u16-at-requires-3 : tie.Need-u16-at-requires-3
-u16-at-requires-3 c κs = search needs
+u16-at-requires-3 c κs = omega (arith, c .before .before .before .before .before .before .before .before .before .before .before .before .before .before .before .before .before .before .before .pre)
 
 returns : tie.Need-returns
 unfolding recordOf
