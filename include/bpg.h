@@ -25,7 +25,7 @@ extern "C" {
 #define BPG_READING_NUMBERS 117
 
 /* Where each number stands in the list. A flag is 1 or 0. Pixel format, bit depth, color space, the PCM bit depths and the seven extension
- * bits hold at most 255, the loop count and the frame period at most 65535, all others at most 2^32 - 1. */
+ * bits hold at most 255, the loop count and the frame period at most 65535, every other of a record at most 2^32 - 1. */
 enum bpg_number {
     BPG_PIXEL_FORMAT = 0,
     BPG_ALPHA1_FLAG = 1,
