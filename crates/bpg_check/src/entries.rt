@@ -34,9 +34,10 @@ pub(crate) fn unused_zero(record: Record) -> bool
     requires { ⌜ «record» .«entry_count» ≤ maxEntries ⌝ }
     ensures { λ r. ⌜ r ≡ unusedZero «record» ⌝ }
 {
+    let entries = record.entries;
     let mut k = record.entry_count as usize;
     while k < MAX_ENTRIES {
-        let entry = record.entries[k];
+        let entry = entries[k];
         if !is_zero(entry) {
             return false;
         }
@@ -50,10 +51,11 @@ pub(crate) fn has_control(record: Record) -> bool
     requires { ⌜ «record» .«entry_count» ≤ maxEntries ⌝ }
     ensures { λ r. ⌜ ((source : List ℕ) → r ≡ hasLoop (map (extensionOf source) (usedEntries «record»))) ⌝ }
 {
+    let entries = record.entries;
     let count = record.entry_count as usize;
     let mut k: usize = 0;
     while k < count {
-        let entry = record.entries[k];
+        let entry = entries[k];
         if entry.tag == 5 {
             return true;
         }
@@ -122,11 +124,12 @@ pub(crate) fn status(record: Record, source: &[u8]) -> u8
     requires { ⌜ entriesInSource (now source) (usedEntries «record») ≡ true ⌝ }
     ensures { λ r. ⌜ r ≡ statusOf (checkEntries (recordLoop «record») false (map (extensionOf (now (source .entry))) (usedEntries «record»))) ⌝ }
 {
+    let entries = record.entries;
     let count = record.entry_count as usize;
     let mut seen = false;
     let mut k: usize = 0;
     while k < count {
-        let entry = record.entries[k];
+        let entry = entries[k];
         let number = entry_status(record, entry, seen, source);
         if number != 0 {
             return number;

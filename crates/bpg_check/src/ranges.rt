@@ -19,10 +19,11 @@ fn payloads_in(record: Record, source: &[u8]) -> bool
     requires { ⌜ «record» .«entry_count» ≤ maxEntries ⌝ }
     ensures { λ r. ⌜ r ≡ entriesInSource (now (source .entry)) (usedEntries «record») ⌝ }
 {
+    let entries = record.entries;
     let count = record.entry_count as usize;
     let mut k: usize = 0;
     while k < count {
-        let entry = record.entries[k];
+        let entry = entries[k];
         let payload = entry.payload;
         if !is_in(payload, source) {
             return false;

@@ -18,7 +18,7 @@ use Rattle.bpg_format.specs.Zero.{zeroHeader}
 use Rattle.bpg_format.specs.Syntax.{blockBytes, extensionBytes, extensionPart, headerBits, headerBytes, bodyBytes, dataLength, fileOf}
 use Rattle.bpg_format.specs.Records.{bytesIn, extensionOf, usedEntries, contentOf}
 use Rattle.bpg_writer.specs.Layouts.{entriesSize, extensionSize, headerSize, bodySize, layoutOf}
-use Rattle.bpg_writer.specs.Parts.{RangeInside, headPart, entriesPart, blockPart, headerPart, bodyPart, filePart}
+use Rattle.bpg_writer.specs.Parts.{Encoded, RangeInside, headPart, entriesPart, blockPart, headerPart, bodyPart, filePart}
 use Rattle.bpg_writer.proofs.PartLaws.{range-length}
 use Rattle.bpg_writer.proofs.JudgedLaws.{Judged}
 
@@ -42,22 +42,30 @@ entries-measured source (e ∷ es) a =
 
 -- ---- a header's bits in a buffer
 
-pub record Encoded (h : Header) (b : BitBuffer) : Type 0 where
-  pub len-is : b .len .0 ≡ length (headerBits h)
-  pub bytes-are : take (bytesFor (b .len .0)) (b .bytes) ≡ padded (headerBits h)
+-- parts that are alike where they are there
+select-where : (t : Bool) (l m : List ℕ) → (t ≡ true → l ≡ m) → select t l [] ≡ select t m []
+unfolding select
+select-where true l m e = e refl
+select-where false l m e = refl
 
-module _ (h : Header) (b : BitBuffer) (e : Encoded h b) where
-  size-is : bytesFor (b .len .0) ≡ length (padded (headerBits h))
-  size-is = ap bytesFor (e .len-is) ∙ sym (length-padded (headerBits h))
+length-where : (t : Bool) (l : List ℕ) (n : ℕ) → (t ≡ true → length l ≡ n) → length (select t l []) ≡ select t n 0
+unfolding select
+length-where true l n e = e refl
+length-where false l n e = refl
 
-  header-part : (t : Bool) → headerPart t b ≡ select t (headerBytes h) []
+module _ (t : Bool) (h : Header) (b : BitBuffer) (e : Encoded t h b) where
+  size-is : t ≡ true → bytesFor (b .len .0) ≡ length (padded (headerBits h))
+  size-is there = ap bytesFor (e .len-is there) ∙ sym (length-padded (headerBits h))
+
+  header-part : headerPart t b ≡ select t (headerBytes h) []
   unfolding headerBytes
-  header-part t = ap (λ (l : List ℕ). select t l []) (ap₂ (λ (n : ℕ) (l : List ℕ). ue7Bytes n ++ l) size-is (e .bytes-are))
+  header-part = select-where t _ _ λ there. ap₂ (λ (n : ℕ) (l : List ℕ). ue7Bytes n ++ l) (size-is there) (e .bytes-are there)
 
-  header-measured : (t : Bool) → length (select t (headerBytes h) []) ≡ headerSize t (b .len .0)
-  unfolding select headerBytes
-  header-measured true = length-append (ue7Bytes (length (padded (headerBits h)))) (padded (headerBits h)) ∙ ap (λ (n : ℕ). length (ue7Bytes n) + n) (sym size-is)
-  header-measured false = refl
+  header-measured : length (select t (headerBytes h) []) ≡ headerSize t (b .len .0)
+  unfolding headerBytes
+  header-measured =
+      length-where t (headerBytes h) _ λ there.
+      length-append (ue7Bytes (length (padded (headerBits h)))) (padded (headerBits h)) ∙ ap (λ (n : ℕ). length (ue7Bytes n) + n) (sym (size-is there))
 
 extension-measured : (t : Bool) (l : List ℕ) (n : ℕ) → length l ≡ n → length (select t (ue7Bytes (length l) ++ l) []) ≡ extensionSize t n
 unfolding select
@@ -72,8 +80,8 @@ extension-holds false l n = omega (arith, ap length (n refl))
 
 -- ---- the file
 
-module _ (r : Record) (source : List ℕ) (j : Judged r source) (a c : BitBuffer) (ea : Encoded (getD (r .headers) 0 zeroHeader) a)
-    (ec : Encoded (getD (r .headers) 1 zeroHeader) c) where
+module _ (r : Record) (source : List ℕ) (j : Judged r source) (a c : BitBuffer)
+    (ea : Encoded (r .«alpha1_flag» || r .«alpha2_flag») (getD (r .headers) 0 zeroHeader) a) (ec : Encoded true (getD (r .headers) 1 zeroHeader) c) where
   abbrev alpha : Bool
   alpha = r .«alpha1_flag» || r .«alpha2_flag»
 
@@ -86,7 +94,7 @@ module _ (r : Record) (source : List ℕ) (j : Judged r source) (a c : BitBuffer
   body-part : bodyPart alpha a c source (r .«data») ≡ bodyBytes (contentOf r source)
   unfolding bodyBytes contentOf select
   body-part =
-      ap₂ (λ (x y : List ℕ). x ++ (y ++ bytesIn source (r .«data»))) (header-part (getD (r .headers) 0 zeroHeader) a ea alpha) (header-part (getD (r .headers) 1 zeroHeader) c ec true)
+      ap₂ (λ (x y : List ℕ). x ++ (y ++ bytesIn source (r .«data»))) (header-part alpha (getD (r .headers) 0 zeroHeader) a ea) (header-part true (getD (r .headers) 1 zeroHeader) c ec)
 
   pub body-measured : bodySize r (a .len .0) (c .len .0) ≡ length (bodyBytes (contentOf r source))
   unfolding bodyBytes contentOf select
@@ -96,8 +104,8 @@ module _ (r : Record) (source : List ℕ) (j : Judged r source) (a c : BitBuffer
         arith,
         length-append alphaBytes (colorBytes ++ d),
         length-append colorBytes d,
-        header-measured (getD (r .headers) 0 zeroHeader) a ea alpha,
-        header-measured (getD (r .headers) 1 zeroHeader) c ec true,
+        header-measured alpha (getD (r .headers) 0 zeroHeader) a ea,
+        header-measured true (getD (r .headers) 1 zeroHeader) c ec,
         range-length source (r .«data») (j .data-inside),
       )
 

@@ -85,11 +85,12 @@ fn entries(out: &mut [u8], at: BytePos, record: Record, source: &[u8]) -> BytePo
     ensures { λ r. ⌜ now (out .exit) ≡ written (now (out .entry)) (at .0) (entriesPart «record» (now (source .entry))) ⌝ }
     ensures { λ r. ⌜ r .0 ≡ writtenEnd (now (out .entry)) (at .0) (entriesPart «record» (now (source .entry))) ⌝ }
 {
+    let all = record.entries;
     let total = record.entry_count as usize;
     let mut next = at.0;
     let mut k: usize = 0;
     while k < total {
-        let one = record.entries[k];
+        let one = all[k];
         next = entry(out, BytePos(next), one, source).0;
         k += 1;
     }

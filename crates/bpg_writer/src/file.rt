@@ -4,11 +4,13 @@ use crate::layout;
 use crate::layout::Layout;
 use bpg_check::judge;
 use bpg_encode::header;
+use bpg_format::Header;
 use bpg_format::MAX_FILE;
 use bpg_format::Record;
 use bpg_format::Written;
 use bpg_format::has_alpha;
 use bpg_format::written_refused;
+use bpg_numbers::bit_buffer;
 use bpg_numbers::bit_buffer::BitBuffer;
 ghost use mathlib.Core.Path.{_≡_};
 ghost use Prim.Native.Nat.{_+_, _≤_};
@@ -18,7 +20,18 @@ ghost use Rattle.bpg_codec.specs.Buffer.{written};
 ghost use Rattle.bpg_format.specs.Limits.{maxEntries, maxFile};
 ghost use Rattle.bpg_format.specs.Records.{usedEntries};
 ghost use Rattle.bpg_format.specs.Write.{writeFile, writeBuffer};
-ghost use Rattle.bpg_writer.specs.Parts.{RangeInside, entriesPart, filePart};
+ghost use Rattle.bpg_writer.specs.Parts.{Encoded, RangeInside, entriesPart, filePart};
+
+// The bits of a header, where it is there: an absent header is never looked at again.
+fn encoded(present: bool, header: Header) -> BitBuffer
+    ensures { λ r. ⌜ r .len .0 ≤ 512 ⌝ }
+    ensures { λ r. ⌜ Encoded present header r ⌝ }
+{
+    if !present {
+        return bit_buffer::none();
+    }
+    header::encode(header)
+}
 
 // The whole file, part by part, into a buffer that holds it.
 fn emit_file(
@@ -61,8 +74,9 @@ pub fn write(record: Record, source: &[u8], out: &mut [u8]) -> Written
     }
     let alpha_header = record.headers[0];
     let color_header = record.headers[1];
-    let alpha = header::encode(alpha_header);
-    let color = header::encode(color_header);
+    let plane = has_alpha(record.alpha1_flag, record.alpha2_flag);
+    let alpha = encoded(plane, alpha_header);
+    let color = encoded(true, color_header);
     let layout = layout::measure(record, alpha.len.0, color.len.0);
     if MAX_FILE < layout.total as usize {
         return written_refused(1, 0);

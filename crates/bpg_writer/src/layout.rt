@@ -22,11 +22,12 @@ fn block_size(record: Record) -> u64
     ensures { λ r. ⌜ r ≡ entriesSize (usedEntries «record») ⌝ }
     ensures { λ r. ⌜ r < 2 ^ 37 ⌝ }
 {
+    let entries = record.entries;
     let count = record.entry_count as usize;
     let mut size: u64 = 0;
     let mut k: usize = 0;
     while k < count {
-        let entry = record.entries[k];
+        let entry = entries[k];
         let length = entry.payload.length as u64;
         size += ue7::size(entry.tag as u64) as u64 + ue7::size(length) as u64 + length;
         k += 1;

@@ -3,9 +3,9 @@ use mathlib.Core.Path.{_≡_, refl, sym, _∙_}
 use mathlib.Core.List.{List, map}
 use Prim.Native.Nat.{ℕ, _-_, _≤_}
 use native.Mathlib.Omega.{arith}
-use lib.ListN.{length, drop, length-map}
+use lib.ListN.{length, take, drop, length-map}
 use Rattle.bpg_format.specs.Rules.{hasLoop}
-use Rattle.bpg_format.specs.Records.{extensionOf, usedEntries}
+use Rattle.bpg_format.specs.Records.{extensionOf}
 use Rattle.bpg_format.proofs.record.Entry as entry-type
 use Rattle.bpg_check.proofs.EntryLaws.{control-found, control-further, no-control}
 use borrow.Author.Needs.{needs}
@@ -13,18 +13,18 @@ use Rattle.bpg_check.proofs.entries.has_control.Statement.{statement}
 use Rattle.bpg_check.proofs.entries.has_control.Tie as tie
 
 abbrev Inv-loop : tie.InvT-loop
-Inv-loop «record» count k₀ k =
-    (source : List ℕ) → hasLoop (map (extensionOf source) (drop k (usedEntries «record»))) ≡ hasLoop (map (extensionOf source) (usedEntries «record»))
+Inv-loop entries count k₀ k =
+    (source : List ℕ) → hasLoop (map (extensionOf source) (drop k (take count entries))) ≡ hasLoop (map (extensionOf source) (take count entries))
 
 abbrev μ-loop : tie.MeasureT-loop
-μ-loop «record» count k₀ k = «record» .«entry_count» - k
+μ-loop entries count k₀ k = count - k
 
 -- the array has sixteen entries
-sixteen : (c : tie.Start Inv-loop μ-loop) → length (c .args .t1 .entries) ≡ 16
-sixteen c = sym (length-map (c .args .t1 .entries) (entry-type.the-field .into)) ∙ c .good .0 .1 .1 .1 .1 .1 .1 .1 .1 .1 .1 .1 .1 .1 .1 .0 .1 .0 .1
+sixteen : (c : tie.Start Inv-loop μ-loop) → length (c .args .«record» .entries) ≡ 16
+sixteen c = sym (length-map (c .args .«record» .entries) (entry-type.the-field .into)) ∙ c .good .0 .1 .1 .1 .1 .1 .1 .1 .1 .1 .1 .1 .1 .1 .1 .0 .1 .0 .1
 
-most : (c : tie.At-loop Inv-loop μ-loop) → c .before .args .t1 .«entry_count» ≤ length (c .before .args .t1 .entries)
-most c = omega (arith, c .before .pre, sixteen (c .before))
+most : (c : tie.Start Inv-loop μ-loop) → c .args .«record» .«entry_count» ≤ length (c .args .«record» .entries)
+most c = omega (arith, c .pre, sixteen c)
 
 cast-count : tie.Need-cast-count Inv-loop μ-loop
 cast-count c = search needs
@@ -35,13 +35,13 @@ loop-holds c = λ source. refl
 mul-entry : tie.Need-mul-entry Inv-loop μ-loop
 mul-entry c = search needs
 
-element-copy-out-entry : tie.Need-element-copy-out-entry Inv-loop μ-loop
-element-copy-out-entry c = search needs
+array-copy-out-entry : tie.Need-array-copy-out-entry Inv-loop μ-loop
+array-copy-out-entry c = search needs
 
 returns : tie.Need-returns Inv-loop μ-loop
 returns c =
     let l = c .before .before .before .before in
-    λ source. control-found source _ _ _ (l .loop .inv source) _ (most l) (c .before .before .before .loop-test .taken) (c .if1 .taken)
+    λ source. control-found source _ _ _ (l .loop .inv source) _ (most (l .before .before .before)) (c .before .before .before .loop-test .taken) (c .if1 .taken)
 
 add-k : tie.Need-add-k Inv-loop μ-loop
 add-k c = search needs
@@ -52,7 +52,7 @@ loop-less c = omega (arith, c .before .before .before .loop-test .taken)
 loop-again : tie.Need-loop-again Inv-loop μ-loop
 loop-again c =
     let l = c .before .before .before .before in
-    λ source. control-further source _ _ _ (l .loop .inv source) _ (most l) (c .before .before .before .loop-test .taken) (c .if1 .left)
+    λ source. control-further source _ _ _ (l .loop .inv source) _ (most (l .before .before .before)) (c .before .before .before .loop-test .taken) (c .if1 .left)
 
 returns-2 : tie.Need-returns-2 Inv-loop μ-loop
 returns-2 c = let l = c .before in λ source. no-control source _ _ _ (l .loop .inv source) (c .loop-test .left)
@@ -66,7 +66,7 @@ has-control-spec =
     cast-count
     loop-holds
     mul-entry
-    element-copy-out-entry
+    array-copy-out-entry
     returns
     add-k
     loop-less

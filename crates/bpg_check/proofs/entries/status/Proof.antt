@@ -4,8 +4,8 @@ use mathlib.Core.Bool.{false}
 use mathlib.Core.List.{map}
 use Prim.Native.Nat.{_-_, _≤_}
 use native.Mathlib.Omega.{arith}
-use lib.ListN.{length, drop, length-map}
-use Rattle.bpg_format.specs.Records.{extensionOf, usedEntries}
+use lib.ListN.{length, take, drop, length-map}
+use Rattle.bpg_format.specs.Records.{extensionOf}
 use Rattle.bpg_format.specs.Write.{checkEntries}
 use Rattle.bpg_format.proofs.record.Entry as entry-type
 use Rattle.bpg_check.specs.Check.{statusOf, recordLoop}
@@ -15,19 +15,19 @@ use Rattle.bpg_check.proofs.entries.status.Statement.{statement}
 use Rattle.bpg_check.proofs.entries.status.Tie as tie
 
 abbrev Inv-loop : tie.InvT-loop
-Inv-loop source «record» count seen₀ k₀ seen k =
-    statusOf (checkEntries (recordLoop «record») seen (map (extensionOf source) (drop k (usedEntries «record»))))
-    ≡ statusOf (checkEntries (recordLoop «record») false (map (extensionOf source) (usedEntries «record»)))
+Inv-loop «record» source entries count seen₀ k₀ seen k =
+    statusOf (checkEntries (recordLoop «record») seen (map (extensionOf source) (drop k (take count entries))))
+    ≡ statusOf (checkEntries (recordLoop «record») false (map (extensionOf source) (take count entries)))
 
 abbrev μ-loop : tie.MeasureT-loop
-μ-loop source «record» count seen₀ k₀ seen k = «record» .«entry_count» - k
+μ-loop «record» source entries count seen₀ k₀ seen k = count - k
 
 -- the array has sixteen entries
-sixteen : (c : tie.Start Inv-loop μ-loop) → length (c .args .t1 .entries) ≡ 16
-sixteen c = sym (length-map (c .args .t1 .entries) (entry-type.the-field .into)) ∙ c .good .0 .1 .1 .1 .1 .1 .1 .1 .1 .1 .1 .1 .1 .1 .1 .0 .1 .0 .1
+sixteen : (c : tie.Start Inv-loop μ-loop) → length (c .args .«record» .entries) ≡ 16
+sixteen c = sym (length-map (c .args .«record» .entries) (entry-type.the-field .into)) ∙ c .good .0 .1 .1 .1 .1 .1 .1 .1 .1 .1 .1 .1 .1 .1 .1 .0 .1 .0 .1
 
-most : (c : tie.At-loop Inv-loop μ-loop) → c .before .before .args .t1 .«entry_count» ≤ length (c .before .before .args .t1 .entries)
-most c = omega (arith, c .before .before .pre .0, sixteen (c .before .before))
+most : (c : tie.Start Inv-loop μ-loop) → c .args .«record» .«entry_count» ≤ length (c .args .«record» .entries)
+most c = omega (arith, c .pre .0, sixteen c)
 
 cast-count : tie.Need-cast-count Inv-loop μ-loop
 cast-count c = search needs
@@ -38,18 +38,18 @@ loop-holds c = refl
 mul-entry : tie.Need-mul-entry Inv-loop μ-loop
 mul-entry c = search needs
 
-element-copy-out-entry : tie.Need-element-copy-out-entry Inv-loop μ-loop
-element-copy-out-entry c = search needs
+array-copy-out-entry : tie.Need-array-copy-out-entry Inv-loop μ-loop
+array-copy-out-entry c = search needs
 
 entry-status-requires : tie.Need-entry-status-requires Inv-loop μ-loop
 entry-status-requires c κs =
     let l = c .before .before in
-    used-inside _ _ _ _ _ (most l) (l .before .before .pre .1) (c .before .loop-test .taken)
+    used-inside _ _ _ _ _ (most (l .before .before .before .before)) (l .before .before .before .before .pre .1) (c .before .loop-test .taken)
 
 returns : tie.Need-returns Inv-loop μ-loop
 returns c =
     let l = c .before .before .before .before in
-    entry-stops _ _ _ _ _ _ (l .loop .inv) _ (most l) (c .before .before .before .loop-test .taken) _ (c .before .entry-status .ensures) (c .if1 .taken)
+    entry-stops _ _ _ _ _ _ (l .loop .inv) _ (most (l .before .before .before .before)) (c .before .before .before .loop-test .taken) _ (c .before .entry-status .ensures) (c .if1 .taken)
 
 seen-after-requires : tie.Need-seen-after-requires Inv-loop μ-loop
 seen-after-requires c κs = search needs
@@ -64,7 +64,7 @@ loop-again : tie.Need-loop-again Inv-loop μ-loop
 loop-again c =
     let s = c .before .before in
     let l = s .before .before .before in
-    entry-goes-on _ _ _ _ _ _ (l .loop .inv) _ (most l) (s .before .before .loop-test .taken) _ (s .entry-status .ensures) _ (c .before .if1 .left) (c .seen-after .ensures)
+    entry-goes-on _ _ _ _ _ _ (l .loop .inv) _ (most (l .before .before .before .before)) (s .before .before .loop-test .taken) _ (s .entry-status .ensures) _ (c .before .if1 .left) (c .seen-after .ensures)
 
 returns-2 : tie.Need-returns-2 Inv-loop μ-loop
 returns-2 c = let l = c .before in entries-done _ _ _ _ _ _ (l .loop .inv) (c .loop-test .left)
@@ -78,7 +78,7 @@ status-spec =
     cast-count
     loop-holds
     mul-entry
-    element-copy-out-entry
+    array-copy-out-entry
     entry-status-requires
     returns
     seen-after-requires

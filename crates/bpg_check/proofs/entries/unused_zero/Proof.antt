@@ -1,5 +1,5 @@
 -- `entries::unused_zero` meets its contract. Assumes nothing.
-use mathlib.Core.Path.{_≡_, sym, _∙_}
+use mathlib.Core.Path.{_≡_, refl, sym, _∙_}
 use Prim.Native.Nat.{_-_}
 use native.Mathlib.Omega.{arith}
 use lib.ListN.{length, drop, length-map}
@@ -13,26 +13,30 @@ use Rattle.bpg_check.proofs.entries.unused_zero.Statement.{statement}
 use Rattle.bpg_check.proofs.entries.unused_zero.Tie as tie
 
 abbrev Inv-loop : tie.InvT-loop
-Inv-loop «record» k₀ k = zeroEntries (drop k («record» .entries)) ≡ unusedZero «record»
+Inv-loop entries k₀ k = zeroEntries (drop k entries) ≡ zeroEntries (drop k₀ entries)
 
 abbrev μ-loop : tie.MeasureT-loop
-μ-loop «record» k₀ k = maxEntries - k
+μ-loop entries k₀ k = maxEntries - k
 
 -- the array has sixteen entries
-sixteen : (c : tie.Start Inv-loop μ-loop) → length (c .args .t1 .entries) ≡ 16
-sixteen c = sym (length-map (c .args .t1 .entries) (entry-type.the-field .into)) ∙ c .good .0 .1 .1 .1 .1 .1 .1 .1 .1 .1 .1 .1 .1 .1 .1 .0 .1 .0 .1
+sixteen : (c : tie.Start Inv-loop μ-loop) → length (c .args .«record» .entries) ≡ 16
+sixteen c = sym (length-map (c .args .«record» .entries) (entry-type.the-field .into)) ∙ c .good .0 .1 .1 .1 .1 .1 .1 .1 .1 .1 .1 .1 .1 .1 .1 .0 .1 .0 .1
+
+-- what is left decides
+rest : (c : tie.At-loop Inv-loop μ-loop) → zeroEntries (drop (c .loop .k) (c .before .before .before .args .«record» .entries)) ≡ unusedZero (c .before .before .before .args .«record»)
+rest c = c .loop .inv ∙ unused-begins _
 
 cast-k : tie.Need-cast-k Inv-loop μ-loop
 cast-k c = search needs
 
 loop-holds : tie.Need-loop-holds Inv-loop μ-loop
-loop-holds c = unused-begins _
+loop-holds c = refl
 
 mul-entry : tie.Need-mul-entry Inv-loop μ-loop
 mul-entry c = search needs
 
-element-copy-out-entry : tie.Need-element-copy-out-entry Inv-loop μ-loop
-element-copy-out-entry c = search needs
+array-copy-out-entry : tie.Need-array-copy-out-entry Inv-loop μ-loop
+array-copy-out-entry c = search needs
 
 is-zero-requires : tie.Need-is-zero-requires Inv-loop μ-loop
 is-zero-requires c κs = search needs
@@ -40,7 +44,7 @@ is-zero-requires c κs = search needs
 returns : tie.Need-returns Inv-loop μ-loop
 returns c =
     let l = c .before .before .before .before in
-    unused-set _ _ (sixteen (l .before)) (l .loop .inv) _ (c .before .before .before .loop-test .taken) (sym (c .before .is-zero .ensures) ∙ not-true _ (c .if1 .taken))
+    unused-set _ _ (sixteen (l .before .before .before)) (rest l) _ (c .before .before .before .loop-test .taken) (sym (c .before .is-zero .ensures) ∙ not-true _ (c .if1 .taken))
 
 add-k : tie.Need-add-k Inv-loop μ-loop
 add-k c = search needs
@@ -51,10 +55,10 @@ loop-less c = omega (arith, c .before .before .before .loop-test .taken)
 loop-again : tie.Need-loop-again Inv-loop μ-loop
 loop-again c =
     let l = c .before .before .before .before in
-    unused-clear _ _ (sixteen (l .before)) (l .loop .inv) _ (c .before .before .before .loop-test .taken) (sym (c .before .is-zero .ensures) ∙ not-false _ (c .if1 .left))
+    unused-clear _ _ (sixteen (l .before .before .before)) (rest l) _ (c .before .before .before .loop-test .taken) (sym (c .before .is-zero .ensures) ∙ not-false _ (c .if1 .left)) ∙ sym (unused-begins _)
 
 returns-2 : tie.Need-returns-2 Inv-loop μ-loop
-returns-2 c = let l = c .before in all-clear _ _ (sixteen (l .before)) (l .loop .inv) (c .loop-test .left)
+returns-2 c = let l = c .before in all-clear _ _ (sixteen (l .before .before .before)) (rest l) (c .loop-test .left)
 
 pub unused-zero-spec : {M : Type 1} → statement M
 unused-zero-spec =
@@ -65,7 +69,7 @@ unused-zero-spec =
     cast-k
     loop-holds
     mul-entry
-    element-copy-out-entry
+    array-copy-out-entry
     is-zero-requires
     returns
     add-k

@@ -2,9 +2,8 @@
 use mathlib.Core.Path.{_≡_, refl, sym, _∙_}
 use Prim.Native.Nat.{_-_, _≤_}
 use native.Mathlib.Omega.{arith}
-use lib.ListN.{length, drop, length-map}
+use lib.ListN.{length, take, drop, length-map}
 use borrow.Author.Tests.{not-true, not-false}
-use Rattle.bpg_format.specs.Records.{usedEntries}
 use Rattle.bpg_format.specs.Write.{entriesInSource}
 use Rattle.bpg_format.proofs.record.Entry as entry-type
 use Rattle.bpg_check.proofs.EntryLaws.{payload-outside, payload-inside, payloads-inside}
@@ -13,17 +12,17 @@ use Rattle.bpg_check.proofs.ranges.payloads_in.Statement.{statement}
 use Rattle.bpg_check.proofs.ranges.payloads_in.Tie as tie
 
 abbrev Inv-loop : tie.InvT-loop
-Inv-loop source «record» count k₀ k = entriesInSource source (drop k (usedEntries «record»)) ≡ entriesInSource source (usedEntries «record»)
+Inv-loop source entries count k₀ k = entriesInSource source (drop k (take count entries)) ≡ entriesInSource source (take count entries)
 
 abbrev μ-loop : tie.MeasureT-loop
-μ-loop source «record» count k₀ k = «record» .«entry_count» - k
+μ-loop source entries count k₀ k = count - k
 
 -- the array has sixteen entries
-sixteen : (c : tie.Start Inv-loop μ-loop) → length (c .args .t1 .entries) ≡ 16
-sixteen c = sym (length-map (c .args .t1 .entries) (entry-type.the-field .into)) ∙ c .good .0 .1 .1 .1 .1 .1 .1 .1 .1 .1 .1 .1 .1 .1 .1 .0 .1 .0 .1
+sixteen : (c : tie.Start Inv-loop μ-loop) → length (c .args .«record» .entries) ≡ 16
+sixteen c = sym (length-map (c .args .«record» .entries) (entry-type.the-field .into)) ∙ c .good .0 .1 .1 .1 .1 .1 .1 .1 .1 .1 .1 .1 .1 .1 .1 .0 .1 .0 .1
 
-most : (c : tie.At-loop Inv-loop μ-loop) → c .before .before .args .t1 .«entry_count» ≤ length (c .before .before .args .t1 .entries)
-most c = omega (arith, c .before .before .pre, sixteen (c .before .before))
+most : (c : tie.Start Inv-loop μ-loop) → c .args .«record» .«entry_count» ≤ length (c .args .«record» .entries)
+most c = omega (arith, c .pre, sixteen c)
 
 cast-count : tie.Need-cast-count Inv-loop μ-loop
 cast-count c = search needs
@@ -34,8 +33,8 @@ loop-holds c = refl
 mul-entry : tie.Need-mul-entry Inv-loop μ-loop
 mul-entry c = search needs
 
-element-copy-out-entry : tie.Need-element-copy-out-entry Inv-loop μ-loop
-element-copy-out-entry c = search needs
+array-copy-out-entry : tie.Need-array-copy-out-entry Inv-loop μ-loop
+array-copy-out-entry c = search needs
 
 is-in-requires : tie.Need-is-in-requires Inv-loop μ-loop
 is-in-requires c κs = search needs
@@ -43,7 +42,7 @@ is-in-requires c κs = search needs
 returns : tie.Need-returns Inv-loop μ-loop
 returns c =
     let l = c .before .before .before .before .before in
-    payload-outside _ _ _ _ (most l) (l .loop .inv) _ (c .before .before .before .before .loop-test .taken) (sym (c .before .is-in .ensures) ∙ not-true _ (c .if1 .taken))
+    payload-outside _ _ _ _ (most (l .before .before .before .before)) (l .loop .inv) _ (c .before .before .before .before .loop-test .taken) (sym (c .before .is-in .ensures) ∙ not-true _ (c .if1 .taken))
 
 add-k : tie.Need-add-k Inv-loop μ-loop
 add-k c = search needs
@@ -54,7 +53,7 @@ loop-less c = omega (arith, c .before .before .before .before .loop-test .taken)
 loop-again : tie.Need-loop-again Inv-loop μ-loop
 loop-again c =
     let l = c .before .before .before .before .before in
-    payload-inside _ _ _ _ (most l) (l .loop .inv) _ (c .before .before .before .before .loop-test .taken) (sym (c .before .is-in .ensures) ∙ not-false _ (c .if1 .left))
+    payload-inside _ _ _ _ (most (l .before .before .before .before)) (l .loop .inv) _ (c .before .before .before .before .loop-test .taken) (sym (c .before .is-in .ensures) ∙ not-false _ (c .if1 .left))
 
 returns-2 : tie.Need-returns-2 Inv-loop μ-loop
 returns-2 c = let l = c .before in payloads-inside _ _ _ _ (l .loop .inv) (c .loop-test .left)
@@ -68,7 +67,7 @@ payloads-in-spec =
     cast-count
     loop-holds
     mul-entry
-    element-copy-out-entry
+    array-copy-out-entry
     is-in-requires
     returns
     add-k

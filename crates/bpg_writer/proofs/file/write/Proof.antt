@@ -1,25 +1,25 @@
 -- `file::write` meets its contract. Assumes nothing.
-use mathlib.Core.Path.{_≡_, sym, ap, _∙_}
+use mathlib.Core.Path.{_≡_, sym, ap, _∙_, subst}
+use mathlib.Core.Bool.{Bool, true, _||_}
 use mathlib.Core.List.{List}
 use Prim.Native.Nat.{ℕ, _≤_}
 use native.Mathlib.Omega.{arith}
 use lib.ListN.{length, getD, length-map}
 use Rattle.bpg_codec.specs.Outcome.{ok}
-use Rattle.bpg_codec.specs.Bits.{padded}
 use Rattle.bpg_codec.specs.Buffer.{written}
 use Rattle.bpg_format.specs.declared.record.Header.{Header}
 use Rattle.bpg_format.specs.declared.record.Record.{Record}
 use Rattle.bpg_format.specs.Zero.{zeroHeader}
-use Rattle.bpg_format.specs.Syntax.{headerBits, fileOf}
+use Rattle.bpg_format.specs.Syntax.{fileOf}
 use Rattle.bpg_format.specs.Records.{usedEntries, contentOf}
 use Rattle.bpg_format.proofs.record.Header as header-type
 use Rattle.bpg_check.specs.Check.{checkRecord}
 use Rattle.bpg_check.proofs.ConsistentLaws.{header-at}
 use Rattle.bpg_check.proofs.Judgement.{check-passes}
 use Rattle.bpg_writer.specs.declared.layout.Layout.{Layout}
-use Rattle.bpg_writer.specs.Parts.{entriesPart, filePart}
+use Rattle.bpg_writer.specs.Parts.{Encoded, entriesPart, filePart}
 use Rattle.bpg_writer.proofs.JudgedLaws.{Judged, judged}
-use Rattle.bpg_writer.proofs.SizeLaws.{Encoded, entries-measured, file-is, total-measured, block-inside}
+use Rattle.bpg_writer.proofs.SizeLaws.{entries-measured, file-is, total-measured, block-inside}
 use Rattle.bpg_writer.proofs.FileLaws.{judged-out, too-long, too-small, file-written}
 use borrow.Author.Needs.{needs}
 use Rattle.bpg_writer.proofs.file.write.Statement.{statement}
@@ -43,9 +43,9 @@ module _ (c : tie.Else1) where
   known = judged (start .args .t1) source passed
 
 -- and its headers were encoded
-module _ (c : tie.After-encode2) where
+module _ (c : tie.After-encoded2) where
   abbrev begun : tie.Else1
-  begun = c .before .before .before .before
+  begun = c .before .before .before .before .before
 
   abbrev r : Record
   r = start begun .args .t1
@@ -53,28 +53,17 @@ module _ (c : tie.After-encode2) where
   two : length (r .headers) ≡ 2
   two = sym (length-map (r .headers) (header-type.the-field .into)) ∙ start begun .good .0 .1 .1 .1 .1 .1 .1 .1 .1 .1 .1 .1 .1 .1 .1 .1 .1 .1 .1 .0 .1 .0 .1
 
-  alpha-encoded : Encoded (getD (r .headers) 0 zeroHeader) (c .before .encode .result)
+  alpha-encoded : Encoded (r .«alpha1_flag» || r .«alpha2_flag») (getD (r .headers) 0 zeroHeader) (c .before .encoded .result)
   alpha-encoded =
-      let e = header-at (r .headers) 0 two (omega arith) in
-      record {
-        len-is = c .before .encode .ensures .0 ∙ ap (λ (h : Header). length (headerBits h)) e;
-        bytes-are = c .before .encode .ensures .1 .1 .0 ∙ ap (λ (h : Header). padded (headerBits h)) e;
-      }
+      subst (λ (t : Bool). Encoded t (getD (r .headers) 0 zeroHeader) (c .before .encoded .result)) (c .before .before .has-alpha .ensures)
+      (subst (λ (h : Header). Encoded (c .before .before .has-alpha .result) h (c .before .encoded .result)) (header-at (r .headers) 0 two (omega arith)) (c .before .encoded .ensures .1))
 
-  color-encoded : Encoded (getD (r .headers) 1 zeroHeader) (c .encode2 .result)
-  color-encoded =
-      let e = header-at (r .headers) 1 two (omega arith) in
-      record {
-        len-is = c .encode2 .ensures .0 ∙ ap (λ (h : Header). length (headerBits h)) e;
-        bytes-are = c .encode2 .ensures .1 .1 .0 ∙ ap (λ (h : Header). padded (headerBits h)) e;
-      }
-
-  narrow : (c .before .encode .result .len .0 ≤ 512) × (c .encode2 .result .len .0 ≤ 512)
-  narrow = (omega (arith, c .before .encode .ensures .1 .0), omega (arith, c .encode2 .ensures .1 .0))
+  color-encoded : Encoded true (getD (r .headers) 1 zeroHeader) (c .encoded2 .result)
+  color-encoded = subst (λ (h : Header). Encoded true h (c .encoded2 .result)) (header-at (r .headers) 1 two (omega arith)) (c .encoded2 .ensures .1)
 
 -- and the file was measured
 module _ (c : tie.After-measure) where
-  abbrev coded : tie.After-encode2
+  abbrev coded : tie.After-encoded2
   coded = c .before
 
   abbrev file : List ℕ
@@ -83,7 +72,7 @@ module _ (c : tie.After-measure) where
   total-is : c .measure .result .total ≡ length file
   total-is =
       ap (λ (l : Layout). l .total) (c .measure .ensures)
-      ∙ total-measured (r coded) (source (begun coded)) (known (begun coded)) (coded .before .encode .result) (coded .encode2 .result) (alpha-encoded coded) (color-encoded coded)
+      ∙ total-measured (r coded) (source (begun coded)) (known (begun coded)) (coded .before .encoded .result) (coded .encoded2 .result) (alpha-encoded coded) (color-encoded coded)
 
   block-is : c .measure .result .block ≡ length (entriesPart (r coded) (source (begun coded)))
   block-is =
@@ -95,16 +84,16 @@ module _ (c : tie.After-measure) where
       omega (
         arith,
         ap (λ (l : Layout). l .block) (c .measure .ensures),
-        block-inside (r coded) (source (begun coded)) (known (begun coded)) (coded .before .encode .result) (coded .encode2 .result) (alpha-encoded coded) (color-encoded coded),
+        block-inside (r coded) (source (begun coded)) (known (begun coded)) (coded .before .encoded .result) (coded .encoded2 .result) (alpha-encoded coded) (color-encoded coded),
       )
 
   body-most : c .measure .result .body ≤ c .measure .result .total
   body-most = omega (arith, ap (λ (l : Layout). l .body) (c .measure .ensures), ap (λ (l : Layout). l .total) (c .measure .ensures))
 
-  file-part : filePart (r coded) (source (begun coded)) (c .measure .result .body) (coded .before .encode .result) (coded .encode2 .result) ≡ file
+  file-part : filePart (r coded) (source (begun coded)) (c .measure .result .body) (coded .before .encoded .result) (coded .encoded2 .result) ≡ file
   file-part =
-      ap (λ (l : Layout). filePart (r coded) (source (begun coded)) (l .body) (coded .before .encode .result) (coded .encode2 .result)) (c .measure .ensures)
-      ∙ file-is (r coded) (source (begun coded)) (known (begun coded)) (coded .before .encode .result) (coded .encode2 .result) (alpha-encoded coded) (color-encoded coded)
+      ap (λ (l : Layout). filePart (r coded) (source (begun coded)) (l .body) (coded .before .encoded .result) (coded .encoded2 .result)) (c .measure .ensures)
+      ∙ file-is (r coded) (source (begun coded)) (known (begun coded)) (coded .before .encoded .result) (coded .encoded2 .result) (alpha-encoded coded) (color-encoded coded)
 
 record-requires : tie.Need-record-requires
 record-requires c κs = search needs
@@ -125,14 +114,17 @@ element-copy-out-alpha-header c = search needs
 element-copy-out-color-header : tie.Need-element-copy-out-color-header
 element-copy-out-color-header c = search needs
 
-encode-requires : tie.Need-encode-requires
-encode-requires c κs = search needs
+has-alpha-requires : tie.Need-has-alpha-requires
+has-alpha-requires c κs = search needs
 
-encode-requires-2 : tie.Need-encode-requires-2
-encode-requires-2 c κs = search needs
+encoded-requires : tie.Need-encoded-requires
+encoded-requires c κs = search needs
+
+encoded-requires-2 : tie.Need-encoded-requires-2
+encoded-requires-2 c κs = search needs
 
 measure-requires : tie.Need-measure-requires
-measure-requires c κs = (known (begun c) .few, (narrow c .0, narrow c .1))
+measure-requires c κs = (known (begun c) .few, (c .before .encoded .ensures .0, c .encoded2 .ensures .0))
 
 written-refused-requires-2 : tie.Need-written-refused-requires-2
 written-refused-requires-2 c κs = search needs
@@ -160,7 +152,6 @@ emit-file-requires c κs =
     let t = c .before in
     let m = t .before .before in
     let k = known (begun (coded m)) in
-    let n = narrow (coded m) in
     let short = t .before .if2 .left in (
       k .format,
       (
@@ -174,9 +165,9 @@ emit-file-requires c κs =
               (
                 k .data-inside,
                 (
-                  n .0,
+                  coded m .before .encoded .ensures .0,
                   (
-                    n .1,
+                    coded m .encoded2 .ensures .0,
                     (
                       block-is m,
                       ((omega (arith, short, total-is m, block-most m), omega (arith, short, body-most m)), omega (arith, t .if3 .left, total-is m, ap length (file-part m))),
@@ -213,8 +204,9 @@ write-spec =
     returns
     element-copy-out-alpha-header
     element-copy-out-color-header
-    encode-requires
-    encode-requires-2
+    has-alpha-requires
+    encoded-requires
+    encoded-requires-2
     measure-requires
     written-refused-requires-2
     returns-2

@@ -17,24 +17,24 @@ abbrev most : ℕ
 most = 4294967320
 
 abbrev Inv-loop : tie.InvT-loop
-Inv-loop «record» count size₀ k₀ size k = (k ≤ count) × (size ≡ entriesSize (take k («record» .entries))) × (size ≤ k * most)
+Inv-loop entries count size₀ k₀ size k = (k ≤ count) × (size ≡ entriesSize (take k entries)) × (size ≤ k * most)
 
 abbrev μ-loop : tie.MeasureT-loop
-μ-loop «record» count size₀ k₀ size k = count - k
+μ-loop entries count size₀ k₀ size k = count - k
 
-sixteen : (c : tie.Start Inv-loop μ-loop) → length (c .args .t1 .entries) ≡ 16
-sixteen c = sym (length-map (c .args .t1 .entries) (Rattle.bpg_format.proofs.record.Entry.the-field .into)) ∙ c .good .0 .1 .1 .1 .1 .1 .1 .1 .1 .1 .1 .1 .1 .1 .1 .0 .1 .0 .1
+sixteen : (c : tie.Start Inv-loop μ-loop) → length (c .args .«record» .entries) ≡ 16
+sixteen c = sym (length-map (c .args .«record» .entries) (Rattle.bpg_format.proofs.record.Entry.the-field .into)) ∙ c .good .0 .1 .1 .1 .1 .1 .1 .1 .1 .1 .1 .1 .1 .1 .1 .0 .1 .0 .1
 
 -- an entry was measured
 module _ (c : tie.After-size2 Inv-loop μ-loop) where
   abbrev start : tie.Start Inv-loop μ-loop
-  start = c .before .before .before .before .before .before .before
+  start = c .before .before .before .before .before .before .before .before .before
 
   abbrev turn : tie.At-loop Inv-loop μ-loop
   turn = c .before .before .before .before .before .before
 
   abbrev entry : Entry
-  entry = getD (start .args .t1 .entries) (turn .loop .k) zeroEntry
+  entry = getD (start .args .«record» .entries) (turn .loop .k) zeroEntry
 
   tag-size : c .before .size .result ≤ 10
   tag-size = omega (arith, c .before .size .ensures, size-most (entry .tag) (omega arith))
@@ -49,10 +49,10 @@ loop-holds : tie.Need-loop-holds Inv-loop μ-loop
 loop-holds c = (omega arith, refl, omega arith)
 
 mul-entry : tie.Need-mul-entry Inv-loop μ-loop
-mul-entry c = omega (arith, c .before .before .pre)
+mul-entry c = omega (arith, c .before .before .before .before .pre)
 
-element-copy-out-entry : tie.Need-element-copy-out-entry Inv-loop μ-loop
-element-copy-out-entry c = omega (arith, c .before .before .pre)
+array-copy-out-entry : tie.Need-array-copy-out-entry Inv-loop μ-loop
+array-copy-out-entry c = omega (arith, c .before .before .before .before .pre)
 
 cast-length : tie.Need-cast-length Inv-loop μ-loop
 cast-length c = search needs
@@ -84,15 +84,15 @@ loop-less c = omega arith
 loop-again : tie.Need-loop-again Inv-loop μ-loop
 loop-again c =
     let l = turn c .loop in
-    let n = entries-next (start c .args .t1 .entries) (l .k) (omega (arith, sixteen (start c), start c .pre)) in
+    let n = entries-next (start c .args .«record» .entries) (l .k) (omega (arith, sixteen (start c), start c .pre)) in
     (omega arith, omega (arith, n, l .inv .1, c .before .size .ensures, c .size2 .ensures), omega (arith, tag-size c, length-size c, l .inv .2))
 
 returns : tie.Need-returns Inv-loop μ-loop
 returns c =
     let l = c .before .loop in
-    let r = c .before .before .args .t1 in
+    let r = c .before .before .before .before .args .«record» in
     let e : l .k ≡ r .«entry_count» = omega (arith, c .loop-test .left, l .inv .0) in
-    (l .inv .1 ∙ ap (λ (n : ℕ). entriesSize (take n (r .entries))) e, omega (arith, l .inv .2, e, c .before .before .pre))
+    (l .inv .1 ∙ ap (λ (n : ℕ). entriesSize (take n (r .entries))) e, omega (arith, l .inv .2, e, c .before .before .before .before .pre))
 
 pub block-size-spec : {M : Type 1} → statement M
 block-size-spec =
@@ -103,7 +103,7 @@ block-size-spec =
     cast-count
     loop-holds
     mul-entry
-    element-copy-out-entry
+    array-copy-out-entry
     cast-length
     cast-size
     size-requires

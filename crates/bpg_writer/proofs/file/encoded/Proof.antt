@@ -1,0 +1,33 @@
+-- `file::encoded` meets its contract. Assumes nothing.
+use mathlib.Core.Path.{_≡_, sym, ap, _∙_}
+use mathlib.Core.Bool.{Bool, false, true≢false}
+use Prim.Native.Nat.{_≤_}
+use native.Mathlib.Omega.{arith}
+use borrow.Author.Needs.{needs}
+use borrow.Author.Tests.{not-true}
+use Rattle.bpg_numbers.specs.declared.bit_buffer.BitBuffer.{BitBuffer}
+use Rattle.bpg_format.specs.declared.record.Header.{Header}
+use Rattle.bpg_writer.specs.Parts.{Encoded}
+use Rattle.bpg_writer.proofs.file.encoded.Statement.{statement}
+use Rattle.bpg_writer.proofs.file.encoded.Tie as tie
+
+-- of an absent header nothing is said
+absent : {t : Bool} {h : Header} {b : BitBuffer} → t ≡ false → Encoded t h b
+absent e = record { len-is = λ there. absurd (true≢false (sym there ∙ e)); bytes-are = λ there. absurd (true≢false (sym there ∙ e)) }
+
+none-requires : tie.Need-none-requires
+none-requires c κs = search needs
+
+returns : tie.Need-returns
+returns c = (omega (arith, ap (λ (b : BitBuffer). b .len .0) (c .none .ensures)), absent (not-true _ (c .before .if1 .taken)))
+
+encode-requires : tie.Need-encode-requires
+encode-requires c κs = search needs
+
+returns-2 : tie.Need-returns-2
+returns-2 c =
+    let e = c .encode .ensures in
+    (omega (arith, e .1 .0), record { len-is = λ there. e .0; bytes-are = λ there. e .1 .1 .0 })
+
+pub encoded-spec : {M : Type 1} → statement M
+encoded-spec = tie.close (tie.spec none-requires returns encode-requires returns-2)
