@@ -1,30 +1,33 @@
 -- The canonical record of an accepted file, over that file, has the canonical content. Assumes nothing.
 use mathlib.Core.Path.{_≡_, refl, sym, ap, ap₂, _∙_, subst}
-use mathlib.Core.Bool.{Bool, true, false, not}
+use mathlib.Core.Bool.{Bool, true, false, not, _&&_}
 use mathlib.Core.List.{List, [], _∷_, _++_, map, append-assoc, append-nil}
-use Prim.Native.Nat.{ℕ, zero, suc, _+_, _≤_}
+use Prim.Native.Nat.{ℕ, _+_, _≤_}
 use native.Mathlib.Omega.{arith}
 use lib.Dec.{eqb}
-use lib.ListN.{length, take, drop, length-append}
+use lib.ListN.{length, take, drop, length-append, replicate}
 use lib.Seq.{take-take, take-append-seam}
 use borrow.Author.Tests.{ne-eqb}
 use Rattle.bpg_codec.specs.Lawful.{All}
+use Rattle.bpg_codec.specs.Bits.{allZero}
 use Rattle.bpg_codec.proofs.Select.{select-true, select-false}
 use Rattle.bpg_numbers.specs.Ue7.{ue7Bytes}
 use Rattle.bpg_format.specs.declared.record.Entry.{Entry}
+use Rattle.bpg_format.specs.declared.record.Header.{Header}
 use Rattle.bpg_format.specs.Zero.{range, zeroEntry}
-use Rattle.bpg_format.specs.Content.{isEmpty, Extension, Loop, Content}
+use Rattle.bpg_format.specs.Content.{isEmpty, hasAlpha, Extension, Loop, Content}
 use Rattle.bpg_format.specs.Rules.{isLoop, ExtensionRules, Rules}
 use Rattle.bpg_format.specs.Syntax.{fileOf}
 use Rattle.bpg_format.specs.Records.{bytesIn, extensionOf, usedEntries, recordOf, contentOf}
 use Rattle.bpg_format.specs.Write.{Writable}
-use Rattle.bpg_format.specs.Pictures.{pictureEntry, loopBytes, entryWith, pictureOf, withChoices, canonicalContent, canonicalBytes}
+use Rattle.bpg_format.specs.Pictures.{pictureHeader, headerWith, needsRange, pictureEntry, loopBytes, entryWith, pictureOf, withChoices, canonicalContent, canonicalBytes}
 use Rattle.bpg_format.proofs.RecordLaws.{content-record}
 use Rattle.bpg_format.proofs.Writing.{record-writable}
 use Rattle.bpg_format.proofs.CanonicalLaws.{canonical-rules}
 use Rattle.bpg_writer.specs.Parts.{RangeInside}
 use Rattle.bpg_writer.proofs.PartLaws.{range-length}
-use Rattle.bpg_canonical.specs.Records.{loopSize, canonicalEntry, canonicalHeader, canonicalRecord}
+use Rattle.bpg_canonical.specs.Records.{loopSize, canonicalEntry, hasRange, canonicalHeader, canonicalRecord}
+use Rattle.bpg_canonical.proofs.RecordLaws.{take-changed, drop-changed}
 
 -- ---- an entry
 
@@ -93,22 +96,20 @@ module _ (file : List ℕ) (p : Loop) where
   entries-inside [] r i = tt
   entries-inside (e ∷ es) r i = (entry-inside e (r .0) (i .0), entries-inside es (r .1) (i .1))
 
--- an unused entry stays as it is
-pub unused-kept : (n : ℕ) (es : List Entry) → All (λ (e : Entry). e ≡ zeroEntry) es → All (λ (e : Entry). e ≡ zeroEntry) (map (canonicalEntry n) es)
-unused-kept n [] a = tt
-unused-kept n (e ∷ es) a = (ap (canonicalEntry n) (a .0) ∙ select-false (record { tag = 0; payload = range 0 n }) zeroEntry refl, unused-kept n es (a .1))
+-- ---- a header
+
+-- the nine flags are zero where the range flag is not set
+abbrev NoRange : Header → Type 0
+NoRange h = h .«sps_range_extension_flag» ≡ false → h .«range_flags» ≡ replicate 9 false
+
+header-content : (h : Header) → NoRange h → canonicalHeader h ≡ headerWith (needsRange (pictureHeader h)) (needsRange (pictureHeader h)) (pictureHeader h)
+header-content h none = ap (λ (b : Bool). headerWith b b (pictureHeader h)) (by (h .«sps_range_extension_flag») refl)
+  where
+    by : (b : Bool) → h .«sps_range_extension_flag» ≡ b → hasRange h ≡ needsRange (pictureHeader h)
+    by true w = ap (λ (b : Bool). b && needsRange (pictureHeader h)) w
+    by false w = ap (λ (b : Bool). b && needsRange (pictureHeader h)) w ∙ sym (ap (λ (l : List Bool). not (allZero l)) (none w))
 
 -- ---- the content
-
-take-map : {A B : Type 0} (g : A → B) (n : ℕ) (l : List A) → take n (map g l) ≡ map g (take n l)
-take-map g zero l = refl
-take-map g (suc n) [] = refl
-take-map g (suc n) (x ∷ l) = ap (λ (m : List _). g x ∷ m) (take-map g n l)
-
-drop-map : {A B : Type 0} (g : A → B) (n : ℕ) (l : List A) → drop n (map g l) ≡ map g (drop n l)
-drop-map g zero l = refl
-drop-map g (suc n) [] = refl
-drop-map g (suc n) (x ∷ l) = drop-map g n l
 
 no-entry : (es : List Extension) → not (eqb (length es) 0) ≡ not (isEmpty (map pictureEntry es))
 no-entry [] = refl
@@ -138,9 +139,16 @@ module _ (c : Content) (r : Rules c) where
   extensions-canonical : map (extensionOf file) (usedEntries (canonicalRecord (recordOf c))) ≡ map (entryWith (c .loop) []) (map pictureEntry (c .extensions))
   unfolding recordOf
   extensions-canonical =
-      ap (map (extensionOf file)) (take-map (canonicalEntry (loopSize (recordOf c))) (length (c .extensions)) (recordOf c .entries))
+      ap (map (extensionOf file)) (take-changed (canonicalEntry (loopSize (recordOf c))) (recordOf c .entries) (length (c .extensions)))
       ∙ entries-content file (c .loop) used known (original .payloads)
       ∙ ap (λ (l : List Extension). map (entryWith (c .loop) []) (map pictureEntry l)) extensions-are
+
+  alpha-range : NoRange (c .alphaHeader)
+  alpha-range = by (hasAlpha (c .flags)) refl
+    where
+      by : (b : Bool) → hasAlpha (c .flags) ≡ b → NoRange (c .alphaHeader)
+      by true w = r .alpha-header w .fields .no-range
+      by false w = λ _. ap (λ (h : Header). h .«range_flags») (r .no-alpha w)
 
   pub canonical-content : contentOf (canonicalRecord (recordOf c)) file ≡ canonicalContent c
   unfolding contentOf canonicalContent withChoices pictureOf recordOf
@@ -163,8 +171,8 @@ module _ (c : Content) (r : Rules c) where
         explicitLength = false;
         extensions = extensions-canonical z;
         loop = c .loop;
-        alphaHeader = canonicalHeader (c .alphaHeader);
-        colorHeader = canonicalHeader (c .colorHeader);
+        alphaHeader = header-content (c .alphaHeader) alpha-range z;
+        colorHeader = header-content (c .colorHeader) (r .color-header .fields .no-range) z;
         hevcData = data-is z;
       }
 
@@ -175,11 +183,9 @@ module _ (c : Content) (r : Rules c) where
       let g = canonicalEntry (loopSize (recordOf c)) in
       record {
         few = r .entry-limit;
-        payloads = subst (All (RangeInside (length file))) (sym (take-map g (length (c .extensions)) (recordOf c .entries))) (entries-inside file (c .loop) used known (original .payloads));
+        payloads = subst (All (RangeInside (length file))) (sym (take-changed g (recordOf c .entries) (length (c .extensions)))) (entries-inside file (c .loop) used known (original .payloads));
         data-range = original .data-range;
-        unused =
-            subst (All (λ (e : Entry). e ≡ zeroEntry)) (sym (drop-map g (length (c .extensions)) (recordOf c .entries)))
-            (unused-kept (loopSize (recordOf c)) (drop (length (c .extensions)) (recordOf c .entries)) (original .unused));
+        unused = subst (All (λ (e : Entry). e ≡ zeroEntry)) (sym (drop-changed g (recordOf c .entries) (length (c .extensions)))) (original .unused);
         rules = subst Rules (sym canonical-content) (canonical-rules c r);
         holds = subst (λ (d : Content). length (fileOf d) ≤ length (fileOf (canonicalContent c))) (sym canonical-content) (omega arith);
       }

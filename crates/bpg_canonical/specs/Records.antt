@@ -1,8 +1,8 @@
 -- A record with the canonical choices (document 01, "Record and picture": the tidy form): (a) open; (b) no extension flag where there is no
 -- entry; (c) in each header the SPS extension absent where all nine flags are zero, else present with the range flag; (d) no dummy bytes.
-use mathlib.Core.Bool.{Bool, false, not}
-use mathlib.Core.List.{List, map}
-use Prim.Native.Nat.{ℕ, _+_}
+use mathlib.Core.Bool.{Bool, false, not, _&&_}
+use mathlib.Core.List.{List, [], _∷_, map}
+use Prim.Native.Nat.{ℕ, zero, suc, _+_}
 use lib.Dec.{eqb}
 use lib.ListN.{length}
 use Rattle.bpg_codec.specs.Select.{select}
@@ -21,9 +21,13 @@ loopSize r = length (ue7Bytes (r .«loop_count»)) + length (ue7Bytes (r .«fram
 abbrev pub canonicalEntry : (size : ℕ) → Entry → Entry
 canonicalEntry n e = select (eqb (e .tag) 5) (record { tag = e .tag; payload = range (e .payload .start) n }) e
 
+-- one of the nine flags is set, which are there with the range flag
+abbrev pub hasRange : Header → Bool
+hasRange h = h .«sps_range_extension_flag» && needsRange (pictureHeader h)
+
 -- (c)
 abbrev pub canonicalHeader : Header → Header
-canonicalHeader h = let p = pictureHeader h in headerWith (needsRange p) (needsRange p) p
+canonicalHeader h = headerWith (hasRange h) (hasRange h) (pictureHeader h)
 
 abbrev pub recordWith : (extension explicit : Bool) → List Entry → List Header → Record → Record
 recordWith extension explicit es hs r =
@@ -48,9 +52,20 @@ recordWith extension explicit es hs r =
       «data» = r .«data»;
     }
 
-abbrev pub canonicalEntries : (size : ℕ) → Record → Record
-canonicalEntries n r = recordWith (r .«extension_present_flag») (r .«explicit_length») (map (canonicalEntry n) (r .entries)) (r .headers) r
+-- a list with its first elements changed
+abbrev pub changed : {A : Type 0} → (A → A) → (count : ℕ) → List A → List A
+changed f zero l = l
+changed f (suc n) [] = []
+changed f (suc n) (x ∷ l) = f x ∷ changed f n l
 
--- (a) and (b), and the rest
+-- the entries in use
+abbrev pub canonicalEntries : (size : ℕ) → Record → Record
+canonicalEntries n r =
+    recordWith (r .«extension_present_flag») (r .«explicit_length») (changed (canonicalEntry n) (r .«entry_count») (r .entries)) (r .headers) r
+
+-- (a), (b) and (c)
+abbrev pub canonicalFlags : Record → Record
+canonicalFlags r = recordWith (not (eqb (r .«entry_count») 0)) false (r .entries) (map canonicalHeader (r .headers)) r
+
 abbrev pub canonicalRecord : Record → Record
-canonicalRecord r = recordWith (not (eqb (r .«entry_count») 0)) false (map (canonicalEntry (loopSize r)) (r .entries)) (map canonicalHeader (r .headers)) r
+canonicalRecord r = canonicalEntries (loopSize r) (canonicalFlags r)

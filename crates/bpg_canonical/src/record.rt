@@ -7,7 +7,8 @@ use bpg_format::Range;
 use bpg_format::Record;
 use bpg_numbers::ue7;
 ghost use mathlib.Core.Path.{_≡_};
-ghost use Rattle.bpg_canonical.specs.Records.{loopSize, canonicalEntry, canonicalHeader, canonicalEntries, canonicalRecord};
+ghost use Prim.Native.Nat.{min};
+ghost use Rattle.bpg_canonical.specs.Records.{loopSize, canonicalEntry, hasRange, canonicalHeader, canonicalEntries, canonicalFlags, canonicalRecord};
 
 // How many bytes the three numbers of tag 5 take.
 fn loop_size(record: Record) -> u32
@@ -35,23 +36,45 @@ fn canonical_entry(entry: Entry, size: u32) -> Entry
     }
 }
 
+// One of the nine flags is set. An accepted file has none without the range flag.
+fn has_range(header: Header) -> bool
+    ensures { λ r. ⌜ r ≡ hasRange header ⌝ }
+{
+    if header.sps_range_extension_flag {
+        return !absent::no_range_flag(header);
+    }
+    false
+}
+
 // The SPS extension is there, with the range flag, where one of the nine flags is set.
 fn canonical_header(header: Header) -> Header
     ensures { λ r. ⌜ r ≡ canonicalHeader header ⌝ }
 {
-    let range = !absent::no_range_flag(header);
+    let range = has_range(header);
     let mut canonical = header;
     canonical.sps_extension_present_flag = range;
     canonical.sps_range_extension_flag = range;
     canonical
 }
 
+// How many entries there are to visit: the record's count, and no more than the array has.
+fn used_entries(count: u32) -> usize
+    ensures { λ r. ⌜ r ≡ min 16 count ⌝ }
+{
+    if MAX_ENTRIES < count as usize {
+        return MAX_ENTRIES;
+    }
+    count as usize
+}
+
+// Only the entries in use are visited: a loop over all sixteen would be unrolled, and each number of each entry moved by itself.
 fn with_entries(record: Record, size: u32) -> Record
     ensures { λ r. ⌜ r ≡ canonicalEntries size «record» ⌝ }
 {
+    let used = used_entries(record.entry_count);
     let mut all = record;
     let mut k: usize = 0;
-    while k < MAX_ENTRIES {
+    while k < used {
         let entry = all.entries[k];
         all.entries[k] = canonical_entry(entry, size);
         k += 1;
@@ -59,15 +82,23 @@ fn with_entries(record: Record, size: u32) -> Record
     all
 }
 
-pub(crate) fn canonical(record: Record) -> Record
-    ensures { λ r. ⌜ r ≡ canonicalRecord «record» ⌝ }
+// The flags that say how a picture is written, in the record and in its headers.
+fn with_flags(record: Record) -> Record
+    ensures { λ r. ⌜ r ≡ canonicalFlags «record» ⌝ }
 {
     let alpha = record.headers[0];
     let color = record.headers[1];
-    let mut all = with_entries(record, loop_size(record));
+    let mut all = record;
     all.extension_present_flag = record.entry_count != 0;
     all.explicit_length = false;
     all.headers[0] = canonical_header(alpha);
     all.headers[1] = canonical_header(color);
     all
+}
+
+// The entries last: what is done after a loop over them would copy the record again.
+pub(crate) fn canonical(record: Record) -> Record
+    ensures { λ r. ⌜ r ≡ canonicalRecord «record» ⌝ }
+{
+    with_entries(with_flags(record), loop_size(record))
 }
