@@ -2,3 +2,4 @@
 pub mod animation;
 pub mod block;
 mod entry;
+mod run;
