@@ -4,7 +4,7 @@ use mathlib.Core.Bool.{Bool, true, false, _||_}
 use mathlib.Core.List.{List, [], _∷_, _++_, map, append-assoc}
 use Prim.Native.Nat.{ℕ, _+_, _≤_}
 use native.Mathlib.Omega.{arith}
-use lib.ListN.{length, take, getD, length-append}
+use lib.ListN.{length, getD, length-append}
 use Rattle.bpg_codec.specs.Select.{select}
 use Rattle.bpg_codec.specs.Lawful.{All}
 use Rattle.bpg_codec.specs.Bits.{bytesFor, padded}

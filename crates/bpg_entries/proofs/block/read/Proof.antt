@@ -5,7 +5,7 @@ use mathlib.Core.List.{List}
 use Prim.Native.Nat.{ℕ, _+_, _-_, _<_}
 use native.Mathlib.Omega.{arith}
 use lib.Dec.{eqb}
-use lib.ListN.{drop, set, replicate}
+use lib.ListN.{drop, set}
 use borrow.Author.Needs.{needs}
 use borrow.Author.Tests.{eq-eqb, ne-eqb}
 use Rattle.bpg_codec.specs.Select.{select}
@@ -18,7 +18,6 @@ use Rattle.bpg_format.specs.Read.{readEntries}
 use Rattle.bpg_entries.specs.declared.animation.Animation.{Animation}
 use Rattle.bpg_entries.specs.declared.entry.Step.{Step}
 use Rattle.bpg_entries.specs.declared.block.Block.{Block}
-use Rattle.bpg_entries.specs.Animations.{refusedAnimation}
 use Rattle.bpg_entries.specs.Blocks.{refusedBlock, blockAnswer, entriesIn, Reading}
 use Rattle.bpg_entries.proofs.BlockLaws.{begins, ends, full, stops, goes-on, count-most, too-long, in-region}
 use Rattle.bpg_entries.proofs.block.read.Statement.{statement}
