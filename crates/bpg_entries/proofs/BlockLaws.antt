@@ -34,7 +34,7 @@ use Rattle.bpg_entries.specs.declared.entry.Step.{Step}
 use Rattle.bpg_entries.specs.declared.block.Block.{Block}
 use Rattle.bpg_entries.specs.Animations.{loopAnswer}
 use Rattle.bpg_entries.specs.Entries.{stepAnswer}
-use Rattle.bpg_entries.specs.Blocks.{refusedBlock, blockAnswer, entriesIn, Reading}
+use Rattle.bpg_entries.specs.Blocks.{refusedBlock, blockAnswer, entriesIn}
 use Rattle.bpg_entries.proofs.LastEntry.{or-select, answer-select, entries-snoc, bytes-snoc, has-snoc, loop-snoc, pad-snoc}
 
 -- ---- the reading, one entry at a time
@@ -96,6 +96,15 @@ addedBlock b t animated animation =
       animated = animated;
       animation = animation;
     }
+
+-- `done` was read from p on, and stands in the block; from `next` on the rest is read
+pub record Reading (region : List ℕ) (p : ℕ) (block : Block) (next : ℕ) : Type 0 where
+  pub done : List Extension
+  pub is : block ≡ blockAnswer p (ok done)
+  pub few : length done ≤ maxEntries
+  pub at : next ≡ p + length (blockBytes done)
+  pub rest : readEntries maxEntries false p (drop p region)
+      ≡ (readEntries (maxEntries - length done) (hasLoop done) next (drop next region) >>= λ es. ok (done ++ es))
 
 nothing : {A : Type 0} (m : Outcome (List A)) → m ≡ (m >>= λ es. ok ([] ++ es))
 nothing (ok es) = refl

@@ -3,19 +3,17 @@ use mathlib.Core.Path.{_≡_, refl, sym, ap, _∙_}
 use mathlib.Core.Bool.{Bool, true, false, and-false}
 use mathlib.Core.Logic.{_≢_}
 use mathlib.Core.List.{List, [], _∷_}
-use Prim.Native.Nat.{ℕ, _+_, _-_, _*_, _%_, _≤_, _<_}
+use Prim.Native.Nat.{ℕ, _+_, _-_, _≤_, _<_}
 use native.Mathlib.Omega.{arith}
-use lib.ListN.{length, take, drop, getD, length-drop}
+use lib.ListN.{length, take, drop}
 use lib.Seq.{length-take-le}
 use borrow.Author.Tests.{le-leb, lt-leb, eq-eqb, ne-eqb}
 use Rattle.bpg_codec.specs.Outcome.{Outcome, ok, error, _>>=_}
 use Rattle.bpg_codec.specs.Lawful.{All, Byte}
 use Rattle.bpg_codec.proofs.Select.{select-true, select-false}
 use Rattle.bpg_codec.specs.Regions.{verbatim}
-use Rattle.bpg_codec.proofs.Lists.{drop-next}
 use Rattle.bpg_codec.proofs.Outcome.{bind-assoc}
 use Rattle.bpg_numbers.specs.Ue7.{ue7}
-use Rattle.bpg_numbers.proofs.Ue7Laws.{rest-last, decode-rest}
 use Rattle.bpg_format.specs.Content.{Extension}
 use Rattle.bpg_format.specs.FileCodec.{loopNumbers, loopFrom, loopIn, loopOf}
 use Rattle.bpg_format.specs.Rules.{noLoop}
@@ -26,7 +24,7 @@ use Rattle.bpg_format.proofs.ReadingRefusals.{loop-refuses}
 use Rattle.bpg_entries.specs.declared.animation.Animation.{Animation}
 use Rattle.bpg_entries.specs.declared.entry.Step.{Step}
 use Rattle.bpg_entries.specs.Animations.{refusedAnimation, loopAnswer, animationAnswer}
-use Rattle.bpg_entries.specs.Entries.{refusedStep, foundStep, stepAnswer, afterSize, ShortEntry}
+use Rattle.bpg_entries.specs.Entries.{refusedStep, foundStep, stepAnswer, afterSize}
 
 -- ---- loop numbers
 
@@ -122,36 +120,3 @@ module _ (region : List ℕ) (at : ℕ) (seen : Bool) where
         → afterSize at seen tag q size start (drop start region) ≡ readEntry seen at (drop at region)
     unfolding readEntry afterSize
     both-read size start e = rw (t, e)
-
--- ---- a short entry
-
-one-byte : (region : List ℕ) (p : ℕ) → p < length region → getD region p 0 < 128
-    → ue7 32 .decode p p (drop p region) ≡ ok (getD region p 0, p + 1, drop (p + 1) region)
-one-byte region p h b =
-    let byte = getD region p 0 in
-    let left = drop (p + 1) region in
-    let is : 0 * 128 + byte % 128 ≡ byte = omega arith in
-    rw (drop-next region p 0 h)
-    (decode-rest 32 p (byte ∷ left) (λ z. omega arith) ∙ rest-last 32 p 0 p byte left (omega arith) b ∙ ap (λ (v : ℕ). ok (v, p + 1, left)) is)
-
-module _ (region : List ℕ) (at : ℕ) (h : at + 1 < length region) (t : getD region at 0 < 128) (s : getD region (at + 1) 0 < 128) where
-  short-read : getD region (at + 1) 0 ≤ length region - (at + 2) → getD region at 0 ≢ 5 → (seen : Bool)
-      → foundStep (getD region at 0) (at + 2) (getD region (at + 1) 0) (refusedAnimation 0 0) ≡ stepAnswer (readEntry seen at (drop at region))
-  short-read fits n seen =
-      let next : at + 1 + 1 ≡ at + 2 = omega arith in
-      let size = one-byte region (at + 1) h s ∙ ap (λ (q : ℕ). ok (getD region (at + 1) 0, q, drop q region)) next in
-      plain at seen (getD region at 0) (at + 1) (getD region (at + 1) 0) (at + 2) (drop (at + 2) region) (omega (arith, length-drop (at + 2) region)) n
-      ∙ ap stepAnswer (both-read region at seen (getD region at 0) (at + 1) (one-byte region at (omega arith) t) (getD region (at + 1) 0) (at + 2) size)
-
-  pub short-found : getD region (at + 1) 0 ≤ length region - (at + 2) → getD region at 0 ≢ 5 → (x : Step)
-      → x ≡ foundStep (getD region at 0) (at + 2) (getD region (at + 1) 0) (refusedAnimation 0 0) → ShortEntry region at x
-  short-found fits n x f = (
-    omega arith,
-    omega (arith, ap (λ (y : Step). y .next) f),
-    λ e. n (sym (ap (λ (y : Step). y .entry .tag) f) ∙ e),
-    λ seen. f ∙ short-read fits n seen,
-  )
-
--- a step with another status says nothing
-pub not-short : (region : List ℕ) (at o : ℕ) (x : Step) → x ≡ refusedStep 1 o → x .status ≡ 0 → ShortEntry region at x
-not-short region at o x e z = absurd (omega (arith, z, ap (λ (y : Step). y .status) e))

@@ -1,16 +1,13 @@
 -- What reading the entries of a block answers (document 01, "Order of the file", item 4).
 use mathlib.Core.Bool.{false}
-use mathlib.Core.Path.{_≡_}
-use mathlib.Core.List.{List, _++_}
-use Prim.Native.Nat.{ℕ, _+_, _-_, _≤_}
+use mathlib.Core.List.{List}
+use Prim.Native.Nat.{ℕ}
 use lib.Dec.{leb}
 use lib.ListN.{length, drop, replicate}
 use Rattle.bpg_codec.specs.Outcome.{Outcome, ok, error, _>>=_, guard}
 use Rattle.bpg_format.specs.Limits.{maxEntries, maxFile}
-use Rattle.bpg_format.specs.declared.record.Entry.{Entry}
 use Rattle.bpg_format.specs.Zero.{zeroEntry}
 use Rattle.bpg_format.specs.Content.{Extension}
-use Rattle.bpg_format.specs.Syntax.{blockBytes}
 use Rattle.bpg_format.specs.Rules.{hasLoop}
 use Rattle.bpg_format.specs.FileCodec.{loopOf}
 use Rattle.bpg_format.specs.Read.{readEntries}
@@ -45,16 +42,3 @@ blockAnswer p (error s o) = refusedBlock s o
 -- the entries from p to the end of a region, which is no longer than a file
 unfoldable pub entriesIn : List ℕ → (p : ℕ) → Outcome (List Extension)
 entriesIn region p = guard (leb (length region) maxFile) 1 0 >>= λ _. readEntries maxEntries false p (drop p region)
-
--- the block with these entries, none of which has tag 5
-abbrev pub runBlock : List Entry → (n : ℕ) → Block
-runBlock es n = record { status = 0; offset = 0; «entry_count» = n; entries = es; animated = false; animation = refusedAnimation 0 0 }
-
--- `done` was read from p on, and stands in the block; from `next` on the rest is read
-pub record Reading (region : List ℕ) (p : ℕ) (block : Block) (next : ℕ) : Type 0 where
-  pub done : List Extension
-  pub is : block ≡ blockAnswer p (ok done)
-  pub few : length done ≤ maxEntries
-  pub at : next ≡ p + length (blockBytes done)
-  pub rest : readEntries maxEntries false p (drop p region)
-      ≡ (readEntries (maxEntries - length done) (hasLoop done) next (drop next region) >>= λ es. ok (done ++ es))

@@ -1,9 +1,7 @@
 -- What reading one entry answers (document 01, "Order of the file", item 4).
 use mathlib.Core.Bool.{Bool, not, _&&_}
 use mathlib.Core.List.{List, [], _∷_}
-use mathlib.Core.Path.{_≡_}
-use mathlib.Core.Logic.{_≢_}
-use Prim.Native.Nat.{ℕ, _+_, _-_, _≤_, _<_}
+use Prim.Native.Nat.{ℕ, _+_, _-_}
 use lib.Dec.{leb, eqb}
 use lib.ListN.{length, take, drop}
 use Rattle.bpg_codec.specs.Select.{select}
@@ -11,7 +9,7 @@ use Rattle.bpg_codec.specs.Outcome.{Outcome, ok, error, _>>=_, guard}
 use Rattle.bpg_format.specs.Zero.{range, zeroEntry}
 use Rattle.bpg_format.specs.Content.{Extension}
 use Rattle.bpg_format.specs.FileCodec.{loopOf}
-use Rattle.bpg_format.specs.Read.{readLoop, readEntry}
+use Rattle.bpg_format.specs.Read.{readLoop}
 use Rattle.bpg_entries.specs.declared.animation.Animation.{Animation}
 use Rattle.bpg_entries.specs.declared.entry.Step.{Step}
 use Rattle.bpg_entries.specs.Animations.{refusedAnimation, loopAnswer}
@@ -37,8 +35,3 @@ afterSize p seen tag lengthAt size start l =
     guard (not (seen && eqb tag 5)) 13 p >>= λ _.
     select (eqb tag 5) (readLoop start (take size l)) (ok (take size l)) >>= λ payload.
     ok (record { tag = tag; payload = payload }, start + size, drop size l)
-
--- a step that is the entry at p, whatever stands before it, since its tag is not 5
-abbrev pub ShortEntry : List ℕ → (p : ℕ) → Step → Type 0
-ShortEntry region p t =
-    (p < length region) × (t .next ≤ length region) × (t .entry .tag ≢ 5) × ((seen : Bool) → t ≡ stepAnswer (readEntry seen p (drop p region)))

@@ -2,7 +2,6 @@
 use crate::animation;
 use crate::animation::Animation;
 use crate::entry;
-use crate::run;
 use bpg_format::Entry;
 use bpg_format::MAX_ENTRIES;
 use bpg_format::MAX_FILE;
@@ -44,16 +43,12 @@ pub fn read(region: &[u8], at: BytePos) -> Block
     if MAX_FILE < region.len() {
         return refused(1, 0);
     }
-    let start = at.0;
-    if region.len() <= start {
-        return refused(0, 0);
-    }
-    let begun = run::read(region, start);
-    let mut entries = begun.entries;
-    let mut entry_count = begun.entry_count;
+    let none = zero_entry();
+    let mut entries = [none; MAX_ENTRIES];
+    let mut entry_count: u32 = 0;
     let mut animated = false;
     let mut animation = animation::refused(0, 0);
-    let mut next = begun.next;
+    let mut next = at.0;
     while next < region.len() {
         if MAX_ENTRIES <= entry_count as usize {
             return refused(11, next);

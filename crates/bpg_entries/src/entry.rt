@@ -12,7 +12,7 @@ ghost use Prim.Native.Nat.{_+_, _≤_, _<_};
 ghost use lib.ListN.{length as count, drop};
 ghost use Rattle.bpg_format.specs.Limits.{maxFile};
 ghost use Rattle.bpg_format.specs.Read.{readEntry};
-ghost use Rattle.bpg_entries.specs.Entries.{refusedStep, foundStep, stepAnswer, afterSize, ShortEntry};
+ghost use Rattle.bpg_entries.specs.Entries.{refusedStep, foundStep, stepAnswer, afterSize};
 
 // Status 0, the entry, the offset after it, and the animation of a payload with tag 5; or a refusal.
 pub struct Step {
@@ -109,33 +109,4 @@ pub(crate) fn read(region: &[u8], at: BytePos, seen: bool) -> Step
             ),
         },
     }
-}
-
-// The entry at `at`, where its tag and its length have one byte each, its tag is not 5, and its payload fits; else a status that is not 0,
-// which refuses nothing: `read` has to look.
-pub(crate) fn read_short(region: &[u8], at: usize) -> Step
-    requires { ⌜ count (now region) ≤ maxFile ⌝ }
-    requires { ⌜ at ≤ count (now region) ⌝ }
-    ensures { λ r. ⌜ (r .status ≡ 0 → ShortEntry (now (region .entry)) at r) ⌝ }
-{
-    if region.len() - at < 2 {
-        return refused(1, at);
-    }
-    let tag = region[at];
-    let size = region[at + 1];
-    let start = at + 2;
-    if 128 <= tag {
-        return refused(1, at);
-    }
-    if 128 <= size {
-        return refused(1, at);
-    }
-    if tag == 5 {
-        return refused(1, at);
-    }
-    if region.len() - start < size as usize {
-        return refused(1, at);
-    }
-    let none = animation::refused(0, 0);
-    found(tag as u32, start, size as u32, none)
 }

@@ -2,4 +2,3 @@
 pub mod animation;
 pub mod block;
 mod entry;
-mod run;

@@ -5,7 +5,7 @@ use mathlib.Core.List.{List}
 use Prim.Native.Nat.{ℕ, _+_, _-_, _<_}
 use native.Mathlib.Omega.{arith}
 use lib.Dec.{eqb}
-use lib.ListN.{drop, set}
+use lib.ListN.{drop, set, replicate}
 use borrow.Author.Needs.{needs}
 use borrow.Author.Tests.{eq-eqb, ne-eqb}
 use Rattle.bpg_codec.specs.Select.{select}
@@ -18,8 +18,9 @@ use Rattle.bpg_format.specs.Read.{readEntries}
 use Rattle.bpg_entries.specs.declared.animation.Animation.{Animation}
 use Rattle.bpg_entries.specs.declared.entry.Step.{Step}
 use Rattle.bpg_entries.specs.declared.block.Block.{Block}
-use Rattle.bpg_entries.specs.Blocks.{refusedBlock, blockAnswer, entriesIn, Reading}
-use Rattle.bpg_entries.proofs.BlockLaws.{begins, ends, full, stops, goes-on, count-most, too-long, in-region}
+use Rattle.bpg_entries.specs.Animations.{refusedAnimation}
+use Rattle.bpg_entries.specs.Blocks.{blockAnswer, entriesIn}
+use Rattle.bpg_entries.proofs.BlockLaws.{Reading, begins, ends, full, stops, goes-on, count-most, too-long, in-region}
 use Rattle.bpg_entries.proofs.block.read.Statement.{statement}
 use Rattle.bpg_entries.proofs.block.read.Tie as tie
 
@@ -28,11 +29,11 @@ abbrev made : List Entry → ℕ → Bool → Animation → Block
 made es n animated animation = record { status = 0; offset = 0; «entry_count» = n; entries = es; animated = animated; animation = animation }
 
 abbrev Inv-loop : tie.InvT-loop
-Inv-loop region start entries₀ entry-count₀ animated₀ animation₀ next₀ entries entry-count animated animation next =
-    Reading region start (made entries entry-count animated animation) next
+Inv-loop region entries₀ entry-count₀ animated₀ animation₀ next₀ entries entry-count animated animation next =
+    Reading region next₀ (made entries entry-count animated animation) next
 
 abbrev μ-loop : tie.MeasureT-loop
-μ-loop region start entries₀ entry-count₀ animated₀ animation₀ next₀ entries entry-count animated animation next = maxEntries - entry-count
+μ-loop region entries₀ entry-count₀ animated₀ animation₀ next₀ entries entry-count animated animation next = maxEntries - entry-count
 
 refused-requires : tie.Need-refused-requires Inv-loop μ-loop
 refused-requires c κs = search needs
@@ -40,34 +41,23 @@ refused-requires c κs = search needs
 returns : tie.Need-returns Inv-loop μ-loop
 returns c = c .refused .ensures ∙ too-long _ _ (c .before .if1 .taken)
 
+zero-entry-requires : tie.Need-zero-entry-requires Inv-loop μ-loop
+zero-entry-requires c κs = search needs
+
 refused-requires-2 : tie.Need-refused-requires-2 Inv-loop μ-loop
 refused-requires-2 c κs = search needs
 
-returns-2 : tie.Need-returns-2 Inv-loop μ-loop
-returns-2 c =
-    let e = c .before .before in
-    let a = e .before .before .args in
-    let region = a .region .now in
-    let at = a .at .0 in
-    c .refused2 .ensures ∙ ends region at (refusedBlock 0 0) at (begins region at) (c .before .if2 .taken) ∙ ap (blockAnswer at) (in-region region at (e .if1 .left))
-
-read-requires : tie.Need-read-requires Inv-loop μ-loop
-read-requires c κs = search needs
-
-refused-requires-3 : tie.Need-refused-requires-3 Inv-loop μ-loop
-refused-requires-3 c κs = search needs
-
 loop-holds : tie.Need-loop-holds Inv-loop μ-loop
 loop-holds c =
-    let r = c .before .before in
-    let a = r .before .before .before .before .args in
-    let begun = r .read .result in
-    subst (λ (y : Animation). Reading (a .region .now) (a .at .0) (made (begun .entries) (begun .«entry_count») false y) (begun .next)) (sym (c .refused3 .ensures)) (r .read .ensures)
+    let a = c .before .before .before .before .args in
+    subst (λ (y : Animation). Reading (a .region .now) (a .at .0) (made (replicate maxEntries (c .before .zero-entry .result)) 0 false y) (a .at .0)) (sym (c .refused2 .ensures))
+    (subst (λ (e : Entry). Reading (a .region .now) (a .at .0) (made (replicate maxEntries e) 0 false (refusedAnimation 0 0)) (a .at .0)) (sym (c .before .zero-entry .ensures))
+    (begins (a .region .now) (a .at .0)))
 
 -- a turn of the loop
 module _ (c : tie.At-loop Inv-loop μ-loop) where
   abbrev start : tie.Start Inv-loop μ-loop
-  start = c .before .before .before .before .before .before .before
+  start = c .before .before .before .before .before
 
   abbrev region : List ℕ
   region = start .args .region .now
@@ -79,34 +69,34 @@ module _ (c : tie.At-loop Inv-loop μ-loop) where
   block = made (c .loop .entries) (c .loop .entry-count) (c .loop .animated) (c .loop .animation)
 
   short : readEntries maxEntries false at (drop at region) ≡ entriesIn region at
-  short = in-region region at (c .before .before .before .before .before .if1 .left)
+  short = in-region region at (c .before .before .before .if1 .left)
 
   bytes : All Byte region
-  bytes = all-bytes region (λ i. omega (arith, c .before .before .before .before .before .before .shared-slice-known .given i))
+  bytes = all-bytes region (λ i. omega (arith, c .before .before .before .before .shared-slice-known .given i))
 
-cast-if3 : tie.Need-cast-if3 Inv-loop μ-loop
-cast-if3 c = let l = c .before in omega (arith, count-most _ _ (block l) _ (l .loop .inv))
+cast-if2 : tie.Need-cast-if2 Inv-loop μ-loop
+cast-if2 c = let l = c .before in omega (arith, count-most _ _ (block l) _ (l .loop .inv))
+
+refused-requires-3 : tie.Need-refused-requires-3 Inv-loop μ-loop
+refused-requires-3 c κs = search needs
+
+returns-2 : tie.Need-returns-2 Inv-loop μ-loop
+returns-2 c =
+    let l = c .before .before .before in
+    c .refused3 .ensures ∙ full _ _ (block l) _ (l .loop .inv) (c .before .before .loop-test .taken) (c .before .if2 .taken) ∙ ap (blockAnswer (at l)) (short l)
+
+read-requires : tie.Need-read-requires Inv-loop μ-loop
+read-requires c κs = search needs
 
 refused-requires-4 : tie.Need-refused-requires-4 Inv-loop μ-loop
 refused-requires-4 c κs = search needs
 
 returns-3 : tie.Need-returns-3 Inv-loop μ-loop
 returns-3 c =
-    let l = c .before .before .before in
-    c .refused4 .ensures ∙ full _ _ (block l) _ (l .loop .inv) (c .before .before .loop-test .taken) (c .before .if3 .taken) ∙ ap (blockAnswer (at l)) (short l)
-
-read-requires-2 : tie.Need-read-requires-2 Inv-loop μ-loop
-read-requires-2 c κs = search needs
-
-refused-requires-5 : tie.Need-refused-requires-5 Inv-loop μ-loop
-refused-requires-5 c κs = search needs
-
-returns-4 : tie.Need-returns-4 Inv-loop μ-loop
-returns-4 c =
     let r = c .before .before .before in
     let l = r .before .before .before in
-    c .refused5 .ensures
-    ∙ stops _ _ (block l) _ (l .loop .inv) (r .before .before .loop-test .taken) (r .before .if3 .left) (r .read2 .result) (r .read2 .ensures) (c .before .if4 .taken)
+    c .refused4 .ensures
+    ∙ stops _ _ (block l) _ (l .loop .inv) (r .before .before .loop-test .taken) (r .before .if2 .left) (r .read .result) (r .read .ensures) (c .before .if3 .taken)
     ∙ ap (blockAnswer (at l)) (short l)
 
 cast-entries : tie.Need-cast-entries Inv-loop μ-loop
@@ -123,40 +113,40 @@ add-entry-count c = search needs
 
 -- the entry was read and stored
 module _ (c : tie.After-struct-known2 Inv-loop μ-loop) where
-  abbrev read : tie.After-read2 Inv-loop μ-loop
+  abbrev read : tie.After-read Inv-loop μ-loop
   read = c .before .before .before .before .before
 
   abbrev turn : tie.At-loop Inv-loop μ-loop
   turn = read .before .before .before
 
   abbrev step : Step
-  step = read .read2 .result
+  step = read .read .result
 
   less : maxEntries - (turn .loop .entry-count + 1) < maxEntries - turn .loop .entry-count
-  less = omega (arith, read .before .if3 .left)
+  less = omega (arith, read .before .if2 .left)
 
   stored : (animated : Bool) (animation : Animation)
       → select (eqb (step .entry .tag) 5) true (turn .loop .animated) ≡ animated
       → select (eqb (step .entry .tag) 5) (step .animation) (turn .loop .animation) ≡ animation
       → Reading (region turn) (at turn) (made (set (turn .loop .entries) (turn .loop .entry-count) (step .entry)) (turn .loop .entry-count + 1) animated animation) (step .next)
   stored =
-      goes-on _ _ (block turn) _ (turn .loop .inv) (read .before .before .loop-test .taken) (read .before .if3 .left) step (read .read2 .ensures) (bytes turn)
-      (c .before .before .before .if4 .left)
+      goes-on _ _ (block turn) _ (turn .loop .inv) (read .before .before .loop-test .taken) (read .before .if2 .left) step (read .read .ensures) (bytes turn)
+      (c .before .before .before .if3 .left)
 
 loop-less : tie.Need-loop-less Inv-loop μ-loop
 loop-less c = less (c .before)
 
 loop-again : tie.Need-loop-again Inv-loop μ-loop
-loop-again c = let tag = eq-eqb _ _ (c .if5 .taken) in stored (c .before) _ _ (select-true _ _ tag) (select-true _ _ tag)
+loop-again c = let tag = eq-eqb _ _ (c .if4 .taken) in stored (c .before) _ _ (select-true _ _ tag) (select-true _ _ tag)
 
 loop-less-2 : tie.Need-loop-less-2 Inv-loop μ-loop
 loop-less-2 c = less (c .before)
 
 loop-again-2 : tie.Need-loop-again-2 Inv-loop μ-loop
-loop-again-2 c = let tag = ne-eqb _ _ (c .if5 .left) in stored (c .before) _ _ (select-false _ _ tag) (select-false _ _ tag)
+loop-again-2 c = let tag = ne-eqb _ _ (c .if4 .left) in stored (c .before) _ _ (select-false _ _ tag) (select-false _ _ tag)
 
-returns-5 : tie.Need-returns-5 Inv-loop μ-loop
-returns-5 c = let l = c .before in ends _ _ (block l) _ (l .loop .inv) (c .loop-test .left) ∙ ap (blockAnswer (at l)) (short l)
+returns-4 : tie.Need-returns-4 Inv-loop μ-loop
+returns-4 c = let l = c .before in ends _ _ (block l) _ (l .loop .inv) (c .loop-test .left) ∙ ap (blockAnswer (at l)) (short l)
 
 pub read-spec : {M : Type 1} → statement M
 read-spec =
@@ -166,17 +156,15 @@ read-spec =
     μ-loop
     refused-requires
     returns
+    zero-entry-requires
     refused-requires-2
+    loop-holds
+    cast-if2
+    refused-requires-3
     returns-2
     read-requires
-    refused-requires-3
-    loop-holds
-    cast-if3
     refused-requires-4
     returns-3
-    read-requires-2
-    refused-requires-5
-    returns-4
     cast-entries
     mul-entries
     array-set-from-entries
@@ -185,4 +173,4 @@ read-spec =
     loop-again
     loop-less-2
     loop-again-2
-    returns-5)
+    returns-4)
