@@ -26,6 +26,7 @@ fn main() {
             reading(entries, alpha);
         }
     }
+    reading_sizes();
     println!();
     println!("                              library      plain  ratio     memcpy  ratio");
     for (name, size) in SIZES {
@@ -65,6 +66,26 @@ fn reading(entries: usize, alpha: bool) {
         ],
     );
     show_two(&format!("read, {name}"), &records);
+}
+
+/// Reading looks at no byte of the data, so its time does not grow with it.
+fn reading_sizes() {
+    let [small, large] = [1 << 10, 1 << 24].map(|size| sample::file(3, false, size));
+    let race = Race::run(
+        &mut [1; plain::NUMBERS],
+        [
+            &mut |list| {
+                black_box(bpg::ffi::read(black_box(&large), black_box(list)));
+            },
+            &mut |list| {
+                black_box(bpg::ffi::read(black_box(&small), black_box(list)));
+            },
+        ],
+    );
+    println!(
+        "A file of 16 MiB is read in {:.2} of the time of one of 1 KiB.",
+        race.ratio(0, 1)
+    );
 }
 
 fn canonicalizing(name: &str, size: usize) {
