@@ -1,4 +1,4 @@
-//! The canonical form of a file: its record with the one choice of each spelling, written again.
+//! The canonical form of a file: its record with the canonical encoding choices, written again.
 
 use bpg::{HevcHeader, Record, Refusal};
 

@@ -33,10 +33,10 @@ pub fn store(record: &Record, source: &[u8], out: &mut [u8]) -> Result<usize, Re
     if parts.size > MAX_FILE as u64 {
         return refuse(Reason::FileTooLong, 0);
     }
-    let Some(room) = out.get_mut(..parts.size as usize) else {
+    let Some(free) = out.get_mut(..parts.size as usize) else {
         return refuse(Reason::BufferTooSmall, 0);
     };
-    let mut out = Out { room, source };
+    let mut out = Out { free, source };
     out.head(record, parts.data_length);
     if record.extension_present_flag {
         out.block(record, parts.block);
@@ -98,9 +98,9 @@ pub fn ue7_size(value: u64) -> u64 {
     u64::from(bits.div_ceil(7))
 }
 
-/// What is left of the room, and the source that ranges lie in.
+/// What is left of the buffer, and the source that ranges lie in.
 struct Out<'a> {
-    room: &'a mut [u8],
+    free: &'a mut [u8],
     source: &'a [u8],
 }
 
@@ -159,8 +159,8 @@ impl Out<'_> {
 
     #[inline]
     fn take(&mut self, count: usize) -> &mut [u8] {
-        let (taken, rest) = std::mem::take(&mut self.room).split_at_mut(count);
-        self.room = rest;
+        let (taken, rest) = std::mem::take(&mut self.free).split_at_mut(count);
+        self.free = rest;
         taken
     }
 }
