@@ -3,16 +3,15 @@ use mathlib.Core.Path.{_≡_, refl, sym, ap, ap₂, _∙_, subst}
 use mathlib.Core.Bool.{Bool, true, false}
 use mathlib.Core.List.{List, [], _∷_, _++_, append-assoc}
 use Prim.Native.Nat.{ℕ, zero, suc, _+_, _-_, _*_, _/_, _%_, _^_, _≤_, _<_}
-use native.Mathlib.Nat.{pow-suc, zero-add, mod-eq-of-lt, mod-one, zero-div, mod-lt, mul-le-mul-right}
-use native.Mathlib.Numerals.{add-one}
+use native.Mathlib.Nat.{pow-suc, zero-add, mod-eq-of-lt, mod-one, zero-div}
 use native.Mathlib.Omega.{arith}
 use lib.Dec.{eqb}
-use lib.Pow.{mod-pow-add, high, low, shr-shr, shr-lt, pow-pos, pow-add}
-use lib.ListN.{length, take, drop, getD, set, replicate, replicate-append-replicate, length-append, length-drop, take-append-drop, List·getD-append}
-use lib.Seq.{getD-append-add, set-at, set-append-left, take-at, drop-at, length-take-le, drop-nil, take-nil}
+use lib.Pow.{mod-pow-add, high, shr-shr}
+use lib.ListN.{length, take, drop, getD, replicate, replicate-append-replicate, length-append, length-drop, take-append-drop, List·getD-append}
+use lib.Seq.{getD-append-add, take-at, drop-at, length-take-le, drop-nil, take-nil}
 use Rattle.bpg_codec.specs.Lawful.{All, Byte}
-use Rattle.bpg_codec.specs.Bits.{bit, numberFrom, number, bitAt, bits, withBit, zeros, unpack, pack}
-use Rattle.bpg_codec.proofs.Lists.{either-way, drop-past, take-past, set-past}
+use Rattle.bpg_codec.specs.Bits.{bit, numberFrom, number, bitAt, bits, zeros, unpack, pack}
+use Rattle.bpg_codec.proofs.Lists.{either-way, drop-past, take-past}
 
 pub bit-small : (b : Bool) → bit b < 2
 bit-small true = omega arith
@@ -100,49 +99,6 @@ unfolding bits
 bits-zero zero = refl
 bits-zero (suc n) = ap₂ _∷_ (rw zero-div) (bits-zero n)
 
--- one bit set: j bits stand above it and s below
-shift-more : (n s : ℕ) → n / 2 ^ s / 2 ≡ n / 2 ^ suc s
-shift-more n s = rw add-one at (shr-shr n s 1)
-
-module _ (s v : ℕ) (x : Bool) where
-  abbrev w : ℕ
-  w = withBit v s (bit x)
-
-  with-high : w / 2 ^ s ≡ v / 2 ^ s / 2 * 2 + bit x
-  unfolding withBit
-  with-high = high (v / 2 ^ s / 2 * 2 + bit x) s (mod-lt v {m = 2 ^ s} (pow-pos s))
-
-  with-low : w % 2 ^ s ≡ v % 2 ^ s
-  unfolding withBit
-  with-low = low (v / 2 ^ s / 2 * 2 + bit x) s (mod-lt v {m = 2 ^ s} (pow-pos s))
-
-  with-above : w / 2 ^ suc s ≡ v / 2 ^ suc s
-  with-above = rw (← shift-more w s, ← shift-more v s, with-high) (omega (arith, bit-small x))
-
-  with-here : bitAt w s ≡ x
-  with-here =
-      let b : (v / 2 ^ s / 2 * 2 + bit x) % 2 ≡ bit x = omega (arith, bit-small x) in
-      rw (with-high, b) (bit-of-bit x)
-
-  with-below : bits s w ≡ bits s v
-  with-below = sym (bits-mod s w) ∙ ap (bits s) with-low ∙ bits-mod s v
-
-pub set-bits : (j s v : ℕ) (x : Bool) → set (bits (j + suc s) v) j x ≡ bits (j + suc s) (withBit v s (bit x))
-unfolding bits
-set-bits j s v x =
-    rw (bits-append j (suc s) v, bits-append j (suc s) (withBit v s (bit x)), with-above s v x, with-here s v x, with-below s v x)
-    (set-at (bits j (v / 2 ^ suc s)) _ (bits s v) x j (length-bits j (v / 2 ^ suc s)))
-
-pub withBit-small : (k s v x : ℕ) → v < 2 ^ (k + suc s) → x < 2 → withBit v s x < 2 ^ (k + suc s)
-unfolding withBit
-withBit-small k s v x h g =
-    let q : v / 2 ^ s / 2 < 2 ^ k = rw (shift-more v s) (shr-lt k (suc s) h) in
-    let m = mul-le-mul-right (2 ^ s) (top (v / 2 ^ s / 2) (2 ^ k) x q g) in
-    rw (pow-add 2 k (suc s), pow-suc) (omega (arith, m, mod-lt v {m = 2 ^ s} (pow-pos s)))
-  where
-    top : (q n x : ℕ) → q < n → x < 2 → q * 2 + x + 1 ≤ n * 2
-    top q n x h g = omega arith
-
 pub getD-bits : (n v j : ℕ) → j < n → getD (bits n v) j false ≡ bitAt v (n - 1 - j)
 unfolding bits
 getD-bits zero v j h = absurd (omega arith)
@@ -203,32 +159,6 @@ getD-unpack (b ∷ l) k h = either-way k 7 first (λ g. later g (getD-unpack l (
         let n : length (bits 8 b) + (k - 8) ≡ k = rw length-bits (omega arith) in
         rw (d, m, ← ih)
         (subst (λ (j : ℕ). getD (bits 8 b ++ unpack l) j false ≡ getD (unpack l) (k - 8) false) n (getD-append-add (bits 8 b) (unpack l) (k - 8) false))
-
--- the bytes with one bit set to x, as code stores it
-pub set-unpack : (l : List ℕ) (k : ℕ) (x : Bool) → k < 8 * length l
-    → unpack (set l (k / 8) (withBit (getD l (k / 8) 0) (7 - k % 8) (bit x))) ≡ set (unpack l) k x
-unfolding unpack
-set-unpack [] k x h = absurd (omega arith)
-set-unpack (b ∷ l) k x h = either-way k 7 first (λ g. later g (set-unpack l (k - 8) x (omega arith)))
-  where
-    first : k ≤ 7 → unpack (set (b ∷ l) (k / 8) (withBit (getD (b ∷ l) (k / 8) 0) (7 - k % 8) (bit x))) ≡ set (bits 8 b ++ unpack l) k x
-    first g =
-        let d : k / 8 ≡ 0 = omega arith in
-        let m : k % 8 ≡ k = omega arith in
-        let n : k + suc (7 - k) ≡ 8 = omega arith in
-        rw (d, m, set-append-left (bits 8 b) (unpack l) k x (rw length-bits (omega arith)))
-        (ap (λ (y : List Bool). y ++ unpack l)
-        (subst (λ (c : ℕ). bits c (withBit b (7 - k) (bit x)) ≡ set (bits c b) k x) n (sym (set-bits k (7 - k) b x))))
-
-    later : 7 < k → unpack (set l ((k - 8) / 8) (withBit (getD l ((k - 8) / 8) 0) (7 - (k - 8) % 8) (bit x))) ≡ set (unpack l) (k - 8) x
-        → unpack (set (b ∷ l) (k / 8) (withBit (getD (b ∷ l) (k / 8) 0) (7 - k % 8) (bit x))) ≡ set (bits 8 b ++ unpack l) k x
-    later g ih =
-        let d : k / 8 ≡ suc ((k - 8) / 8) = omega arith in
-        let m : k % 8 ≡ (k - 8) % 8 = omega arith in
-        let n : 8 + (k - 8) ≡ k = omega arith in
-        rw (d, m)
-        (ap (λ (y : List Bool). bits 8 b ++ y) ih
-        ∙ subst (λ (j : ℕ). bits 8 b ++ set (unpack l) (k - 8) x ≡ set (bits 8 b ++ unpack l) j x) n (sym (set-past (bits 8 b) (unpack l) 8 (k - 8) x (length-bits 8 b))))
 
 -- ---- bits as bytes
 

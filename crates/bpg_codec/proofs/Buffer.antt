@@ -1,11 +1,10 @@
 -- The laws of writing into a buffer. Assumes nothing.
 use mathlib.Core.Path.{_≡_, sym, ap, _∙_}
-use mathlib.Core.List.{List, [], _∷_, _++_, append-assoc}
+use mathlib.Core.List.{List, [], _++_, append-assoc}
 use Prim.Native.Nat.{ℕ, _+_, _≤_, _<_}
-use native.Mathlib.Numerals.{add-one}
 use native.Mathlib.Omega.{arith}
-use lib.ListN.{length, take, drop, set, length-append, length-take, length-drop}
-use lib.Seq.{set-split, length-take-le, take-append-seam, drop-append-add, drop-drop}
+use lib.ListN.{length, take, drop, length-append, length-take, length-drop}
+use lib.Seq.{length-take-le, take-append-seam, drop-append-add, drop-drop}
 use borrow.Author.Tests.{le-leb, lt-leb}
 use Rattle.bpg_codec.specs.Buffer.{splice, written, writtenEnd}
 use Rattle.bpg_codec.proofs.Select.{select-true, select-false}
@@ -31,10 +30,6 @@ module _ {S : Type 0} where
       ∙ front out f b
       ∙ ap (λ (x : List S). x ++ drop (length x) out) (append-assoc (take at out) a b)
       ∙ sym (splice-front out at (a ++ b) h)
-
-  -- a store is a write of one
-  pub set-splice : (out : List S) (at : ℕ) (x : S) → at < length out → set out at x ≡ splice out at (x ∷ [])
-  set-splice out at x h = rw add-one (set-split out at x h)
 
   -- both answers of a write: what is in the buffer, and the offset after it
   module _ (out : List S) (at : ℕ) (l : List S) where

@@ -30,10 +30,6 @@ unfoldable pub bits : (n v : ℕ) → List Bool
 bits zero v = []
 bits (suc n) v = bitAt v n ∷ bits n v
 
--- v with its bit s, counted from the low end, set to x
-unfoldable pub withBit : (v s x : ℕ) → ℕ
-withBit v s x = (v / 2 ^ s / 2 * 2 + x) * 2 ^ s + v % 2 ^ s
-
 abbrev pub zeros : ℕ → List Bool
 zeros n = replicate n false
 

@@ -1,56 +1,74 @@
--- The bits of a header: at most 471, in at most 59 bytes; its groups, added to an empty buffer, are all that the buffer holds. Assumes nothing.
-use mathlib.Core.Path.{_≡_, ap}
+-- The bits of a header: at most 64 where it keeps the rules; its groups, added to an empty buffer, are all that the buffer holds.
+-- Assumes nothing.
+use mathlib.Core.Path.{_≡_, refl, sym, ap, _∙_}
 use mathlib.Core.Bool.{Bool, true, false}
 use mathlib.Core.List.{List, [], _∷_, _++_, append-assoc}
-use Prim.Native.Nat.{ℕ, _+_, _-_, _^_, _≤_}
+use Prim.Native.Nat.{ℕ, zero, suc, _+_, _-_, _*_, _^_, _≤_}
+use native.Mathlib.Nat.{pow-suc}
 use native.Mathlib.Omega.{arith}
-use lib.ListN.{length, take, length-append}
+use lib.ListN.{length, length-append}
+use lib.Pow.{pow-pos}
 use Rattle.bpg_codec.specs.Select.{select}
-use Rattle.bpg_codec.specs.Bits.{bytesFor, padded}
 use Rattle.bpg_codec.proofs.Lists.{either-way}
 use Rattle.bpg_codec.proofs.Bits.{length-bits}
-use Rattle.bpg_numbers.specs.BitNumbers.{expGolombBits}
+use Rattle.bpg_numbers.specs.BitNumbers.{expGolombBits, prefixZeros}
 use Rattle.bpg_numbers.proofs.BitNumberLaws.{top, expGolomb-size, expGolomb-none}
 use Rattle.bpg_numbers.specs.declared.bit_buffer.BitBuffer.{BitBuffer}
-use Rattle.bpg_numbers.specs.BitBuffer.{empty, appended}
-use Rattle.bpg_numbers.proofs.BitBufferLaws.{holds-bytes}
+use Rattle.bpg_numbers.specs.BitBuffer.{empty, gathered}
+use Rattle.bpg_numbers.proofs.BitBufferLaws.{gathered-fits}
 use Rattle.bpg_format.specs.declared.record.Header.{Header}
 use Rattle.bpg_format.specs.Syntax.{pcmBits, spsExtensionBits, headerBits}
+use Rattle.bpg_format.specs.Rules.{HevcRules}
 use Rattle.bpg_encode.specs.Adding.{Added, sizeBits}
-use Rattle.bpg_encode.proofs.AddingLaws.{added-to-empty}
 
 -- ---- how long a header is
 
--- ue(v)
-code-most : (v : ℕ) → length (expGolombBits v) ≤ 63
-code-most v =
-    either-way (2 ^ 32 - 1) v (λ h. omega (arith, ap length (expGolomb-none v h))) (λ h. omega (arith, expGolomb-size v h, top v h .0 .most))
+double-most : (z : ℕ) → 2 * z ≤ 2 ^ z
+double-most zero = omega arith
+double-most (suc zero) = omega arith
+double-most (suc (suc z)) = rw pow-suc (omega (arith, double-most (suc z), pow-pos z, pow-suc 2 z))
 
-select-most : (flag : Bool) (l : List Bool) (n : ℕ) → length l ≤ n → length (select flag l []) ≤ n
+-- ue(v)
+code-most : (v : ℕ) → length (expGolombBits v) ≤ v + 2
+code-most v =
+    either-way (2 ^ 32 - 1) v (λ h. omega (arith, ap length (expGolomb-none v h)))
+    (λ h. omega (arith, expGolomb-size v h, top v h .0 .low, double-most (prefixZeros v)))
+
+select-most : (flag : Bool) (l : List Bool) (n : ℕ) → (flag ≡ true → length l ≤ n) → length (select flag l []) ≤ n
 unfolding select
-select-most true l n h = h
+select-most true l n h = h refl
 select-most false l n h = omega arith
 
-pcm-most : (h : Header) → length (pcmBits h) ≤ 135
-pcm-most h =
-    simp (length-append, length-bits)
-    (omega (arith, code-most (h .«log2_min_pcm_luma_coding_block_size_minus3»), code-most (h .«log2_diff_max_min_pcm_luma_coding_block_size»)))
+module _ (depth : ℕ) (h : Header) (rules : HevcRules depth h) where
+  pcm-most : h .«pcm_enabled_flag» ≡ true → length (pcmBits h) ≤ 16
+  pcm-most there =
+      simp (length-append, length-bits)
+      (omega (
+        arith,
+        rules .ctb-most,
+        rules .pcm there .max-pcm,
+        code-most (h .«log2_min_pcm_luma_coding_block_size_minus3»),
+        code-most (h .«log2_diff_max_min_pcm_luma_coding_block_size»),
+      ))
 
-pub header-bits-most : (h : Header) → length (h .«range_flags») ≡ 9 → length (headerBits h) ≤ 471
-unfolding headerBits
-header-bits-most h k =
-    simp length-append
-    (omega (
-      arith,
-      code-most (h .«log2_min_luma_coding_block_size_minus3»),
-      code-most (h .«log2_diff_max_min_luma_coding_block_size»),
-      code-most (h .«log2_min_transform_block_size_minus2»),
-      code-most (h .«log2_diff_max_min_transform_block_size»),
-      code-most (h .«max_transform_hierarchy_depth_intra»),
-      select-most (h .«pcm_enabled_flag») (pcmBits h) 135 (pcm-most h),
-      select-most (h .«sps_extension_present_flag») (spsExtensionBits h) 8 (omega (arith, length-bits 7 (h .«sps_extension_7bits»))),
-      select-most (h .«sps_range_extension_flag») (h .«range_flags») 9 (omega arith),
-    ))
+  pub header-short : length (h .«range_flags») ≡ 9 → length (headerBits h) ≤ 64
+  unfolding headerBits
+  header-short nine =
+      simp length-append
+      (omega (
+        arith,
+        rules .ctb-most,
+        rules .max-tb,
+        rules .hierarchy-depth,
+        code-most (h .«log2_min_luma_coding_block_size_minus3»),
+        code-most (h .«log2_diff_max_min_luma_coding_block_size»),
+        code-most (h .«log2_min_transform_block_size_minus2»),
+        code-most (h .«log2_diff_max_min_transform_block_size»),
+        code-most (h .«max_transform_hierarchy_depth_intra»),
+        select-most (h .«pcm_enabled_flag») (pcmBits h) 16 pcm-most,
+        select-most (h .«sps_extension_present_flag») (spsExtensionBits h) 8 (λ _. omega (arith, length-bits 7 (h .«sps_extension_7bits»))),
+        select-most (h .«sps_range_extension_flag») (h .«range_flags») 9 (λ _. omega arith),
+      ))
 
 -- ---- the groups of fields, as they are added
 
@@ -69,10 +87,5 @@ groups-bits : (h : Header) → groups h ≡ headerBits h
 unfolding headerBits
 groups-bits h = simp append-assoc
 
-pub header-held : (h : Header) → length (h .«range_flags») ≡ 9 → {b r : BitBuffer} → b ≡ empty → Added b (groups h) r
-    → (r .len .0 ≡ length (headerBits h)) × ((r .len .0 ≤ 471) × ((take (bytesFor (r .len .0)) (r .bytes) ≡ padded (headerBits h)) × (r ≡ appended empty (headerBits h))))
-header-held h nine {b} {r} e a =
-    let n = header-bits-most h nine in
-    let s : Added empty (headerBits h) r = rw (← e, ← groups-bits h) a in
-    let k = added-to-empty s (omega arith) in
-    (k .len-is, (omega (arith, k .len-is), (holds-bytes r (headerBits h) k (omega arith), s .fits (omega arith))))
+pub header-gathered : (h : Header) {b r : BitBuffer} → b ≡ empty → Added b (groups h) r → r ≡ gathered (headerBits h)
+header-gathered h e a = a .gathers [] (e ∙ sym (gathered-fits [] (omega arith))) ∙ ap gathered (groups-bits h)

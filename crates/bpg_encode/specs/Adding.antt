@@ -1,17 +1,15 @@
--- Adding bits to a buffer, where they fit.
+-- Adding bits to a buffer.
 use mathlib.Core.Path.{_≡_}
 use mathlib.Core.Bool.{Bool}
 use mathlib.Core.List.{List, _++_}
-use Prim.Native.Nat.{_+_, _≤_}
-use lib.ListN.{length}
 use Rattle.bpg_numbers.specs.BitNumbers.{expGolombBits}
-use Rattle.bpg_numbers.specs.BitBuffer.{appended}
+use Rattle.bpg_numbers.specs.BitBuffer.{gathered}
 use Rattle.bpg_numbers.specs.declared.bit_buffer.BitBuffer.{BitBuffer}
 use Rattle.bpg_format.specs.declared.record.Header.{Header}
 
--- r is b with these bits after its own, where there is room for them
+-- r has these bits after those of b
 pub record Added (b : BitBuffer) (l : List Bool) (r : BitBuffer) : Type 0 where
-  pub fits : b .len .0 + length l ≤ 512 → r ≡ appended b l
+  pub gathers : (before : List Bool) → b ≡ gathered before → r ≡ gathered (before ++ l)
 
 -- the first five fields of a header
 abbrev pub sizeBits : Header → List Bool

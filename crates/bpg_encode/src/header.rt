@@ -5,18 +5,16 @@ use bpg_format::Header;
 use bpg_numbers::bit_buffer;
 use bpg_numbers::bit_buffer::BitBuffer;
 ghost use mathlib.Core.Path.{_≡_};
-ghost use Prim.Native.Nat.{_≤_};
-ghost use lib.ListN.{length, take};
-ghost use Rattle.bpg_codec.specs.Bits.{bytesFor, padded};
-ghost use Rattle.bpg_numbers.specs.BitBuffer.{empty, appended};
+ghost use Prim.Native.Nat.{ℕ, _≤_};
+ghost use lib.ListN.{length};
+ghost use Rattle.bpg_numbers.specs.BitBuffer.{gathered};
+ghost use Rattle.bpg_format.specs.Rules.{HevcRules};
 ghost use Rattle.bpg_format.specs.Syntax.{headerBits};
 
-// The header's bits. A number that does not fit its field gives its low bits, and 2^32 - 1, which has no ue(v) code, none.
+// The header's bits, which fit the buffer where the header keeps the rules. A number that does not fit its field gives its low bits, and 2^32 - 1, which has no ue(v) code, none.
 pub fn encode(header: Header) -> BitBuffer
-    ensures { λ r. ⌜ r .len .0 ≡ length (headerBits header) ⌝ }
-    ensures { λ r. ⌜ r .len .0 ≤ 471 ⌝ }
-    ensures { λ r. ⌜ take (bytesFor (r .len .0)) (r .bytes) ≡ padded (headerBits header) ⌝ }
-    ensures { λ r. ⌜ r ≡ appended empty (headerBits header) ⌝ }
+    ensures { λ r. ⌜ r ≡ gathered (headerBits header) ⌝ }
+    ensures { λ _. ⌜ ((depth : ℕ) → HevcRules depth header → length (headerBits header) ≤ 64) ⌝ }
 {
     let sizes = fields::add_sizes(bit_buffer::none(), header);
     let offset = fields::add_flag(sizes, header.sample_adaptive_offset_enabled_flag);

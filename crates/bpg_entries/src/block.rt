@@ -35,6 +35,13 @@ pub fn refused(status: u8, offset: usize) -> Block
     }
 }
 
+// A block without entries.
+pub fn none() -> Block
+    ensures { λ r. ⌜ r ≡ refusedBlock 0 0 ⌝ }
+{
+    refused(0, 0)
+}
+
 // The entries from `at` to the end of the region. A region longer than a file is refused.
 // The block is made at the end: passed from turn to turn, it would be copied for each entry.
 pub fn read(region: &[u8], at: BytePos) -> Block

@@ -1,107 +1,114 @@
--- The laws of the bit buffer: bits stored one by one are a write of bits, and what was appended to an empty buffer stands in its bytes with
--- zero bits up to the byte. Assumes nothing.
-use mathlib.Core.Path.{_≡_, refl, sym, ap, _∙_, subst}
-use mathlib.Core.Bool.{Bool, false}
-use mathlib.Core.List.{List, [], _∷_, _++_, append-assoc}
-use Prim.Native.Nat.{ℕ, suc, _+_, _-_, _*_, _/_, _%_, _^_, _≤_, _<_}
-use native.Mathlib.Nat.{add-zero}
+-- The laws of the bit buffer: bits appended to gathered bits are gathered with them, and its bytes are the bits with zero bits up to the byte.
+-- Assumes nothing.
+use mathlib.Core.Path.{_≡_, refl, sym, ap, ap₂, _∙_}
+use mathlib.Core.Bool.{Bool}
+use mathlib.Core.List.{List, [], _∷_, _++_}
+use Prim.Native.Nat.{ℕ, zero, suc, min, _+_, _-_, _*_, _/_, _%_, _^_, _≤_, _<_}
+use native.Mathlib.Nat.{zero-add, zero-mul, zero-mod, mod-eq-of-lt, mod-lt, mul-mod-left, add-zero}
 use native.Mathlib.Omega.{arith}
-use lib.ListN.{length, take, getD, set, length-append, length-set, length-replicate, take-append-drop}
-use lib.Seq.{take-append-seam, drop-append-add}
+use lib.Arith.{digits-lt}
+use lib.Pow.{pow-pos, pow-mono, pow-add, mod-pow-add, shl-shr}
+use lib.ListN.{length, take, length-append, length-replicate}
 use borrow.Author.Tests.{le-leb, lt-leb}
 use Rattle.bpg_codec.specs.Lawful.{All, Byte}
-use Rattle.bpg_codec.specs.Bits.{bit, bitAt, bits, zeros, withBit, unpack, bytesFor, padded}
-use Rattle.bpg_codec.specs.Buffer.{splice}
+use Rattle.bpg_codec.specs.Bits.{number, numberFrom, bits, zeros, unpack, bytesFor, padded}
 use Rattle.bpg_codec.proofs.Select.{select-true, select-false}
-use Rattle.bpg_codec.proofs.Lists.{take-past, drop-replicate, take-replicate}
-use Rattle.bpg_codec.proofs.Tokens.{all-set, all-take, all-replicate, byte-at}
-use Rattle.bpg_codec.proofs.Bits.{set-unpack, length-unpack, unpack-take, unpack-zeros, withBit-small, bit-small}
-use Rattle.bpg_codec.proofs.Buffer.{set-splice, splice-splice}
+use Rattle.bpg_codec.proofs.Lists.{either-way, take-past, take-replicate}
+use Rattle.bpg_codec.proofs.Tokens.{all-take}
+use Rattle.bpg_codec.proofs.Bits.{numberFrom-bits, numberFrom-append, number-small, bits-number, bits-append, bits-mod, unpack-take}
 use Rattle.bpg_codec.proofs.Packed.{padded-unique, allZero-zeros}
 use Rattle.bpg_numbers.specs.declared.bit_buffer.BitBuffer.{BitBuffer}
-use Rattle.bpg_numbers.specs.BitBuffer.{empty, storeBits, appended}
+use Rattle.bpg_numbers.specs.BitBuffer.{empty, overfull, appended, gathered, bigEndian, bufferBytes}
 
 module _ (b : BitBuffer) (l : List Bool) where
-  pub append-fits : b .len .0 + length l ≤ 512 → appended b l ≡ record { bytes = storeBits (b .bytes) (b .len .0) l; len = record { 0 = b .len .0 + length l } }
+  pub append-fits : b .len .0 + length l ≤ 64
+      → appended b l ≡ record { bits = b .bits % 2 ^ (64 - length l) * 2 ^ length l + number l; len = record { 0 = b .len .0 + length l } }
   unfolding appended
   append-fits h = select-true _ _ (le-leb _ _ h)
 
-  pub append-not : 512 < b .len .0 + length l → appended b l ≡ b
+  pub append-not : 64 < b .len .0 + length l → appended b l ≡ overfull
   unfolding appended
   append-not h = select-false _ _ (lt-leb _ _ h)
 
--- one bit more of a number
-pub store-next : (bytes : List ℕ) (at n v : ℕ)
-    → storeBits bytes at (bits (suc n) v) ≡ storeBits (set bytes (at / 8) (withBit (getD bytes (at / 8) 0) (7 - at % 8) (bit (bitAt v n)))) (at + 1) (bits n v)
-unfolding storeBits bits
-store-next bytes at n v = refl
+-- ---- bits in a buffer of their own
 
-pub store-none : (bytes : List ℕ) (at v : ℕ) → storeBits bytes at (bits 0 v) ≡ bytes
-unfolding storeBits bits
-store-none bytes at v = refl
+pub gathered-fits : (l : List Bool) → length l ≤ 64 → gathered l ≡ record { bits = number l; len = record { 0 = length l } }
+gathered-fits l h =
+    let n : 0 + length l ≤ 64 = omega arith in
+    append-fits empty l n ∙ rw (zero-mod, zero-mul, zero-add, zero-add)
 
--- ---- bits stored one by one are a write of bits
+pub gathered-not : (l : List Bool) → 64 < length l → gathered l ≡ overfull
+gathered-not l h = let n : 64 < 0 + length l = omega arith in append-not empty l n
 
-pub length-store : (l : List Bool) (bytes : List ℕ) (at : ℕ) → length (storeBits bytes at l) ≡ length bytes
-unfolding storeBits
-length-store [] bytes at = refl
-length-store (x ∷ l) bytes at = length-store l _ (at + 1) ∙ length-set bytes _ _
+-- whatever the bits
+pub gathered-most : (l : List Bool) → gathered l .len .0 ≤ 65
+gathered-most l = either-way (length l) 64 (λ h. rw (gathered-fits l h) (omega arith)) (λ h. rw (gathered-not l h) (omega arith))
 
-pub bytes-store : (l : List Bool) (bytes : List ℕ) (at : ℕ) → All Byte bytes → All Byte (storeBits bytes at l)
-unfolding storeBits
-bytes-store [] bytes at h = h
-bytes-store (x ∷ l) bytes at h = bytes-store l _ (at + 1) (all-set Byte bytes (at / 8) _ h small)
+number-append : (l m : List Bool) → number (l ++ m) ≡ number l * 2 ^ length m + number m
+number-append l m =
+    let n : number m % 2 ^ length m ≡ number m = mod-eq-of-lt (number-small (length m) m refl) in
+    numberFrom-append l m 0
+    ∙ ap (numberFrom (number l)) (sym (bits-number (length m) m refl))
+    ∙ numberFrom-bits (length m) (number m) (number l)
+    ∙ rw n
+
+pub gathered-append : (l m : List Bool) → appended (gathered l) m ≡ gathered (l ++ m)
+gathered-append l m =
+    either-way (length l) 64
+    (λ h. either-way (length l + length m) 64 (both h) (λ k. ap (λ (b : BitBuffer). appended b m) (gathered-fits l h) ∙ append-not _ m k ∙ sym (gathered-not (l ++ m) (rw length-append k))))
+    (λ h. let k : 64 < 65 + length m = omega arith in
+    ap (λ (b : BitBuffer). appended b m) (gathered-not l h) ∙ append-not overfull m k ∙ sym (gathered-not (l ++ m) (rw length-append (omega arith))))
   where
-    small : withBit (getD bytes (at / 8) 0) (7 - at % 8) (bit x) < 256
-    small =
-        let e : at % 8 + suc (7 - at % 8) ≡ 8 = omega arith in
-        subst (λ (n : ℕ). withBit (getD bytes (at / 8) 0) (7 - at % 8) (bit x) < 2 ^ n) e
-        (withBit-small (at % 8) (7 - at % 8) (getD bytes (at / 8) 0) (bit x) (rw e (byte-at bytes (at / 8) h)) (bit-small x))
+    both : length l ≤ 64 → length l + length m ≤ 64 → appended (gathered l) m ≡ gathered (l ++ m)
+    both h k =
+        let s : number l < 2 ^ (64 - length m) = omega (arith, number-small (length l) l refl, pow-mono {i = length l} {j = 64 - length m} (omega arith)) in
+        let e : number l % 2 ^ (64 - length m) ≡ number l = mod-eq-of-lt s in
+        ap (λ (b : BitBuffer). appended b m) (gathered-fits l h)
+        ∙ append-fits (record { bits = number l; len = record { 0 = length l } }) m k
+        ∙ rw e
+        (sym (gathered-fits (l ++ m) (rw length-append k) ∙ rw (number-append, length-append)))
 
-pub unpack-store : (l : List Bool) (bytes : List ℕ) (at : ℕ) → at + length l ≤ 8 * length bytes → unpack (storeBits bytes at l) ≡ splice (unpack bytes) at l
-unfolding storeBits
-unpack-store [] bytes at h = rw add-zero (sym (take-append-drop at (unpack bytes)))
-unpack-store (x ∷ l) bytes at h =
-    let n = length-unpack bytes in
-    unpack-store l _ (at + 1) (rw length-set (omega arith))
-    ∙ ap (λ (b : List Bool). splice b (at + 1) l) (set-unpack bytes at x (omega arith) ∙ set-splice (unpack bytes) at x (omega arith))
-    ∙ splice-splice (unpack bytes) at (x ∷ []) l (omega arith)
+-- ---- a shift that drops high bits
 
--- ---- a buffer that holds these bits and nothing else
+pub shifted : (v j k : ℕ) → (v * 2 ^ k) % 2 ^ (j + k) ≡ v % 2 ^ j * 2 ^ k
+shifted v j k = mod-pow-add (v * 2 ^ k) j k ∙ rw (shl-shr, mul-mod-left, add-zero)
 
-pub record Holds (b : BitBuffer) (l : List Bool) : Type 0 where
-  pub len-is : b .len .0 ≡ length l
-  pub size-is : length (b .bytes) ≡ 64
-  pub are-bytes : All Byte (b .bytes)
-  pub bits-are : unpack (b .bytes) ≡ l ++ zeros (512 - length l)
+-- what is below the shift finds place
+pub shifted-fits : (v j k low : ℕ) → low < 2 ^ k → v % 2 ^ j * 2 ^ k + low < 2 ^ (j + k)
+shifted-fits v j k low h = rw pow-add (digits-lt (mod-lt v (pow-pos j)) h)
 
-pub holds-none : Holds empty []
-holds-none =
-    record { len-is = refl; size-is = refl; are-bytes = all-replicate Byte 64 0 (omega arith); bits-are = unpack-zeros 64 }
+-- ---- the bytes of a buffer
 
--- bits after bits and zeros
-after : (l m : List Bool) (k : ℕ) → splice (l ++ zeros k) (length l) m ≡ (l ++ m) ++ zeros (k - length m)
-after l m k = rw (take-append-seam l (zeros k), drop-append-add l (zeros k) (length m), drop-replicate (length m) k false, append-assoc)
+pub unpack-bigEndian : (n v : ℕ) → unpack (bigEndian n v) ≡ bits (8 * n) v
+unfolding bigEndian unpack bits
+unpack-bigEndian zero v = refl
+unpack-bigEndian (suc n) v =
+    let e : 8 * suc n ≡ 8 + 8 * n = omega arith in
+    ap₂ _++_ (bits-mod 8 (v / 2 ^ (8 * n))) (unpack-bigEndian n v) ∙ sym (ap (λ (k : ℕ). bits k v) e ∙ bits-append 8 (8 * n) v)
 
-pub holds-append : (b : BitBuffer) (l m : List Bool) → Holds b l → length l + length m ≤ 512 → Holds (appended b m) (l ++ m)
-holds-append b l m h k =
-    let a = length-append l m in
-    let e : 512 - length (l ++ m) ≡ 512 - length l - length m = omega arith in
-    rw (append-fits b m (omega (arith, h .len-is)))
-    (record {
-      len-is = omega (arith, h .len-is);
-      size-is = length-store m (b .bytes) (b .len .0) ∙ h .size-is;
-      are-bytes = bytes-store m (b .bytes) (b .len .0) (h .are-bytes);
-      bits-are = unpack-store m (b .bytes) (b .len .0) (omega (arith, h .len-is, h .size-is)) ∙ rw (h .bits-are, h .len-is, e) (after l m (512 - length l));
-    })
+pub length-bigEndian : (n v : ℕ) → length (bigEndian n v) ≡ n
+unfolding bigEndian
+length-bigEndian zero v = refl
+length-bigEndian (suc n) v = ap suc (length-bigEndian n v)
 
--- the bytes that are written of such a buffer: the bits, then zero bits up to the byte
-pub holds-bytes : (b : BitBuffer) (l : List Bool) → Holds b l → length l ≤ 512 → take (bytesFor (b .len .0)) (b .bytes) ≡ padded l
-holds-bytes b l h k =
+pub bytes-bigEndian : (n v : ℕ) → All Byte (bigEndian n v)
+unfolding bigEndian
+bytes-bigEndian zero v = tt
+bytes-bigEndian (suc n) v = (omega arith, bytes-bigEndian n v)
+
+-- the first bytes of eight, whose bits are these and then zeros
+pub first-bytes : (l : List Bool) (v : ℕ) → length l ≤ 64 → bits 64 v ≡ l ++ zeros (64 - length l) → take (bytesFor (length l)) (bigEndian 8 v) ≡ padded l
+first-bytes l v h e =
     let n = bytesFor (length l) in
     let z : ℕ = 8 * bytesFor (length l) - length l in
-    let e : 8 * bytesFor (length l) ≡ length l + (8 * bytesFor (length l) - length l) = omega arith in
-    let s : unpack (take (bytesFor (length l)) (b .bytes)) ≡ l ++ zeros (8 * bytesFor (length l) - length l) =
-    unpack-take n (b .bytes) ∙ ap (λ (k : ℕ). take k (unpack (b .bytes))) e ∙ rw (h .bits-are, take-past l (zeros (512 - length l)) (length l) z refl, take-replicate z (512 - length l) false (omega arith)) in
-    rw (h .len-is)
-    (padded-unique (take n (b .bytes)) (all-take Byte n (b .bytes) (h .are-bytes)) l (zeros z) s (rw length-replicate (omega arith)) (allZero-zeros z))
+    let k : 8 * bytesFor (length l) ≡ length l + (8 * bytesFor (length l) - length l) = omega arith in
+    let s : unpack (take (bytesFor (length l)) (bigEndian 8 v)) ≡ l ++ zeros (8 * bytesFor (length l) - length l) =
+    unpack-take n (bigEndian 8 v) ∙ ap (λ (k : ℕ). take k (unpack (bigEndian 8 v))) k
+    ∙ rw (unpack-bigEndian 8 v, e, take-past l (zeros (64 - length l)) (length l) z refl, take-replicate z (64 - length l) _ (omega arith)) in
+    padded-unique (take n (bigEndian 8 v)) (all-take Byte n (bigEndian 8 v) (bytes-bigEndian 8 v)) l (zeros z) s (rw length-replicate (omega arith)) (allZero-zeros z)
+
+-- the bytes of gathered bits
+pub gathered-bytes : (l : List Bool) → length l ≤ 64 → bufferBytes (gathered l) ≡ padded l
+gathered-bytes l h =
+    let n : min (length l) 64 ≡ length l = omega arith in
+    ap bufferBytes (gathered-fits l h) ∙ ap padded (ap (λ (k : ℕ). bits k (number l)) n ∙ bits-number (length l) l refl)

@@ -8,6 +8,8 @@ use lib.Seq.{length-take-le}
 use borrow.Author.Tests.{le-leb, lt-leb}
 use Rattle.bpg_codec.proofs.Lists.{take-drop}
 use Rattle.bpg_format.specs.Limits.{maxFile}
+use Rattle.bpg_format.specs.FileCodec.{loopOf}
+use Rattle.bpg_format.specs.Read.{readEntries}
 use Rattle.bpg_head.specs.Heads.{HeadFields}
 use Rattle.bpg_entries.specs.Blocks.{refusedBlock, blockAnswer, entriesIn}
 use Rattle.bpg_reader.specs.Bodies.{entriesOf, bodyStart}
@@ -17,6 +19,10 @@ module _ (file : List ℕ) (short : length file ≤ maxFile) (h : HeadFields) (i
       → refusedBlock 2 (h .extensionLengthAt) ≡ blockAnswer (h .end) (entriesOf h (drop (h .end) file))
   unfolding entriesOf
   block-too-large n = rw (lt-leb (h .extensionLength) (length (drop (h .end) file)) (omega (arith, length-drop (h .end) file)))
+
+  pub block-empty : h .extensionLength ≡ 0 → refusedBlock 0 0 ≡ blockAnswer (h .end) (entriesOf h (drop (h .end) file))
+  unfolding entriesOf readEntries loopOf
+  block-empty e = rw (e, le-leb 0 (length (drop (h .end) file)) (omega arith))
 
   pub block-region : h .extensionLength ≤ length file - h .end
       → blockAnswer (h .end) (entriesIn (take (bodyStart h - 0) file) (h .end)) ≡ blockAnswer (h .end) (entriesOf h (drop (h .end) file))

@@ -21,6 +21,8 @@ ghost use Rattle.bpg_entries.specs.Blocks.{blockAnswer};
 ghost use Rattle.bpg_reader.specs.Bodies.{headFields, entriesOf, readBody};
 
 // The entries of the extension block. Without the extension flag its length is 0.
+// `block::read` is called in two places: called in one, it would be compiled into this function and those that call it, whose
+// many values leave its loop no registers.
 fn entries(file: &[u8], head: Head) -> Block
     requires { ⌜ count (now file) ≤ maxFile ⌝ }
     requires { ⌜ head .end ≤ count (now file) ⌝ }
@@ -30,7 +32,13 @@ fn entries(file: &[u8], head: Head) -> Block
     if file.len() - head.end < length {
         return block::refused(2, head.extension_length_at);
     }
+    if length == 0 {
+        return block::none();
+    }
     let end = head.end + length;
+    if head.animation_flag {
+        return block::read(&file[0..end], BytePos(head.end));
+    }
     block::read(&file[0..end], BytePos(head.end))
 }
 

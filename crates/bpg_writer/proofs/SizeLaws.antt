@@ -11,10 +11,13 @@ use Rattle.bpg_codec.specs.Bits.{bytesFor, padded}
 use Rattle.bpg_codec.proofs.Packed.{length-padded}
 use Rattle.bpg_numbers.specs.Ue7.{ue7Bytes}
 use Rattle.bpg_numbers.specs.declared.bit_buffer.BitBuffer.{BitBuffer}
+use Rattle.bpg_numbers.specs.BitBuffer.{bufferBytes}
+use Rattle.bpg_numbers.proofs.BitBufferLaws.{gathered-fits, gathered-bytes}
 use Rattle.bpg_format.specs.declared.record.Entry.{Entry}
 use Rattle.bpg_format.specs.declared.record.Header.{Header}
 use Rattle.bpg_format.specs.declared.record.Record.{Record}
 use Rattle.bpg_format.specs.Zero.{zeroHeader}
+use Rattle.bpg_format.specs.Rules.{HevcRules}
 use Rattle.bpg_format.specs.Syntax.{blockBytes, extensionBytes, extensionPart, headerBits, headerBytes, bodyBytes, dataLength, fileOf}
 use Rattle.bpg_format.specs.Records.{bytesIn, extensionOf, usedEntries, contentOf}
 use Rattle.bpg_writer.specs.Layouts.{entriesSize, extensionSize, headerSize, bodySize, layoutOf}
@@ -53,13 +56,16 @@ unfolding select
 length-where true l n e = e refl
 length-where false l n e = refl
 
-module _ (t : Bool) (h : Header) (b : BitBuffer) (e : Encoded t h b) where
+module _ (depth : ℕ) (t : Bool) (h : Header) (b : BitBuffer) (rules : t ≡ true → HevcRules depth h) (e : Encoded t h b) where
+  fits : t ≡ true → length (headerBits h) ≤ 64
+  fits there = e .short there depth (rules there)
+
   size-is : t ≡ true → bytesFor (b .len .0) ≡ length (padded (headerBits h))
-  size-is there = ap bytesFor (e .len-is there) ∙ sym (length-padded (headerBits h))
+  size-is there = ap (λ (x : BitBuffer). bytesFor (x .len .0)) (e .is there ∙ gathered-fits (headerBits h) (fits there)) ∙ sym (length-padded (headerBits h))
 
   header-part : headerPart t b ≡ select t (headerBytes h) []
   unfolding headerBytes
-  header-part = select-where t _ _ λ there. ap₂ (λ (n : ℕ) (l : List ℕ). ue7Bytes n ++ l) (size-is there) (e .bytes-are there)
+  header-part = select-where t _ _ λ there. ap₂ (λ (n : ℕ) (l : List ℕ). ue7Bytes n ++ l) (size-is there) (ap bufferBytes (e .is there) ∙ gathered-bytes (headerBits h) (fits there))
 
   header-measured : length (select t (headerBytes h) []) ≡ headerSize t (b .len .0)
   unfolding headerBytes
@@ -82,6 +88,9 @@ extension-holds false l n = omega (arith, ap length (n refl))
 
 module _ (r : Record) (source : List ℕ) (j : Judged r source) (a c : BitBuffer)
     (ea : Encoded (r .«alpha1_flag» || r .«alpha2_flag») (getD (r .headers) 0 zeroHeader) a) (ec : Encoded true (getD (r .headers) 1 zeroHeader) c) where
+  abbrev depth : ℕ
+  depth = r .«bit_depth_minus_8» + 8
+
   abbrev alpha : Bool
   alpha = r .«alpha1_flag» || r .«alpha2_flag»
 
@@ -94,7 +103,7 @@ module _ (r : Record) (source : List ℕ) (j : Judged r source) (a c : BitBuffer
   body-part : bodyPart alpha a c source (r .«data») ≡ bodyBytes (contentOf r source)
   unfolding bodyBytes contentOf select
   body-part =
-      ap₂ (λ (x y : List ℕ). x ++ (y ++ bytesIn source (r .«data»))) (header-part alpha (getD (r .headers) 0 zeroHeader) a ea) (header-part true (getD (r .headers) 1 zeroHeader) c ec)
+      ap₂ (λ (x y : List ℕ). x ++ (y ++ bytesIn source (r .«data»))) (header-part depth alpha (getD (r .headers) 0 zeroHeader) a (j .alpha-rules) ea) (header-part depth true (getD (r .headers) 1 zeroHeader) c (λ _. j .color-rules) ec)
 
   pub body-measured : bodySize r (a .len .0) (c .len .0) ≡ length (bodyBytes (contentOf r source))
   unfolding bodyBytes contentOf select
@@ -104,8 +113,8 @@ module _ (r : Record) (source : List ℕ) (j : Judged r source) (a c : BitBuffer
         arith,
         length-append alphaBytes (colorBytes ++ d),
         length-append colorBytes d,
-        header-measured alpha (getD (r .headers) 0 zeroHeader) a ea,
-        header-measured true (getD (r .headers) 1 zeroHeader) c ec,
+        header-measured depth alpha (getD (r .headers) 0 zeroHeader) a (j .alpha-rules) ea,
+        header-measured depth true (getD (r .headers) 1 zeroHeader) c (λ _. j .color-rules) ec,
         range-length source (r .«data») (j .data-inside),
       )
 

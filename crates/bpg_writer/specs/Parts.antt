@@ -3,16 +3,18 @@ use mathlib.Core.Path.{_≡_}
 use mathlib.Core.Bool.{Bool, true, _||_}
 use mathlib.Core.List.{List, [], _∷_, _++_, map}
 use Prim.Native.Nat.{ℕ, _+_, _≤_}
-use lib.ListN.{length, take}
+use lib.ListN.{length}
 use Rattle.bpg_codec.specs.Select.{select}
-use Rattle.bpg_codec.specs.Bits.{bytesFor, padded}
+use Rattle.bpg_codec.specs.Bits.{bytesFor}
 use Rattle.bpg_numbers.specs.Ue7.{ue7Bytes}
 use Rattle.bpg_numbers.specs.declared.bit_buffer.BitBuffer.{BitBuffer}
+use Rattle.bpg_numbers.specs.BitBuffer.{gathered, bufferBytes}
 use Rattle.bpg_format.specs.declared.record.Range.{Range}
 use Rattle.bpg_format.specs.declared.record.Entry.{Entry}
 use Rattle.bpg_format.specs.declared.record.Header.{Header}
 use Rattle.bpg_format.specs.declared.record.Record.{Record}
 use Rattle.bpg_format.specs.Content.{Flags}
+use Rattle.bpg_format.specs.Rules.{HevcRules}
 use Rattle.bpg_format.specs.Syntax.{magic, byte4, byte5, blockBytes, headerBits}
 use Rattle.bpg_format.specs.Records.{bytesIn, extensionOf, usedEntries}
 
@@ -45,14 +47,14 @@ entriesPart r source = blockBytes (map (extensionOf source) (usedEntries r))
 abbrev pub blockPart : Record → (source : List ℕ) → List ℕ
 blockPart r source = select (r .«extension_present_flag») (ue7Bytes (length (entriesPart r source)) ++ entriesPart r source) []
 
--- the buffer holds a header's bits, where the header is there
+-- the buffer has a header's bits, where the header is there; those of a header that keeps the rules fit
 pub record Encoded (present : Bool) (h : Header) (b : BitBuffer) : Type 0 where
-  pub len-is : present ≡ true → b .len .0 ≡ length (headerBits h)
-  pub bytes-are : present ≡ true → take (bytesFor (b .len .0)) (b .bytes) ≡ padded (headerBits h)
+  pub is : present ≡ true → b ≡ gathered (headerBits h)
+  pub short : present ≡ true → (depth : ℕ) → HevcRules depth h → length (headerBits h) ≤ 64
 
 -- item 6: a header's length, and its bits up to the byte
 abbrev pub headerPart : (present : Bool) → BitBuffer → List ℕ
-headerPart present b = select present (ue7Bytes (bytesFor (b .len .0)) ++ take (bytesFor (b .len .0)) (b .bytes)) []
+headerPart present b = select present (ue7Bytes (bytesFor (b .len .0)) ++ bufferBytes b) []
 
 -- items 6 and 7
 abbrev pub bodyPart : (alpha : Bool) → (a c : BitBuffer) → (source : List ℕ) → Range → List ℕ

@@ -121,7 +121,7 @@ pub(crate) fn block(
 
 // A header's length and its bits, where they are there.
 fn header(out: &mut [u8], at: BytePos, present: bool, bits: BitBuffer) -> BytePos
-    requires { ⌜ bits .len .0 ≤ 512 ⌝ }
+    requires { ⌜ bits .len .0 ≤ 65 ⌝ }
     requires { ⌜ at .0 + count (headerPart present bits) ≤ count (now out) ⌝ }
     ensures { λ r. ⌜ now (out .exit) ≡ written (now (out .entry)) (at .0) (headerPart present bits) ⌝ }
     ensures { λ r. ⌜ r .0 ≡ writtenEnd (now (out .entry)) (at .0) (headerPart present bits) ⌝ }
@@ -144,8 +144,8 @@ pub(crate) fn body(
     source: &[u8],
     data: Range,
 ) -> BytePos
-    requires { ⌜ alpha .len .0 ≤ 512 ⌝ }
-    requires { ⌜ color .len .0 ≤ 512 ⌝ }
+    requires { ⌜ alpha .len .0 ≤ 65 ⌝ }
+    requires { ⌜ color .len .0 ≤ 65 ⌝ }
     requires { ⌜ «data» .start + «data» .length ≤ count (now source) ⌝ }
     requires { ⌜ at .0 + count (bodyPart «alpha_present» alpha color (now source) «data») ≤ count (now out) ⌝ }
     ensures { λ r. ⌜ now (out .exit) ≡ written (now (out .entry)) (at .0) (bodyPart «alpha_present» alpha color (now (source .entry)) «data») ⌝ }

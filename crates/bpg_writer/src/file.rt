@@ -24,7 +24,7 @@ ghost use Rattle.bpg_writer.specs.Parts.{Encoded, RangeInside, entriesPa
 
 // The bits of a header, where it is there: an absent header is never looked at again.
 fn encoded(present: bool, header: Header) -> BitBuffer
-    ensures { λ r. ⌜ r .len .0 ≤ 512 ⌝ }
+    ensures { λ r. ⌜ r .len .0 ≤ 65 ⌝ }
     ensures { λ r. ⌜ Encoded present header r ⌝ }
 {
     if !present {
@@ -48,8 +48,8 @@ fn emit_file(
     requires { ⌜ «record» .«entry_count» ≤ maxEntries ⌝ }
     requires { ⌜ All (RangeInside (count (now source))) (usedEntries «record») ⌝ }
     requires { ⌜ «record» .«data» .start + «record» .«data» .length ≤ count (now source) ⌝ }
-    requires { ⌜ alpha .len .0 ≤ 512 ⌝ }
-    requires { ⌜ color .len .0 ≤ 512 ⌝ }
+    requires { ⌜ alpha .len .0 ≤ 65 ⌝ }
+    requires { ⌜ color .len .0 ≤ 65 ⌝ }
     requires { ⌜ layout .block ≡ count (entriesPart «record» (now source)) ⌝ }
     requires { ⌜ (layout .block ≤ maxFile) × (layout .body ≤ maxFile) ⌝ }
     requires { ⌜ count (filePart «record» (now source) (layout .body) alpha color) ≤ count (now out) ⌝ }

@@ -49,7 +49,7 @@ fn extension_size(present: bool, block: u64) -> u64
 
 // A header of so many bits, with its length, where it is there.
 fn header_size(present: bool, bits: usize) -> u64
-    requires { ⌜ bits ≤ 512 ⌝ }
+    requires { ⌜ bits ≤ 65 ⌝ }
     ensures { λ r. ⌜ r ≡ headerSize present bits ⌝ }
     ensures { λ r. ⌜ r ≤ 100 ⌝ }
 {
@@ -73,8 +73,8 @@ pub(crate) fn data_length(explicit: bool, body: u64) -> u64
 // The parts of a record's file; its headers have so many bits.
 pub(crate) fn measure(record: Record, alpha_bits: usize, color_bits: usize) -> Layout
     requires { ⌜ «record» .«entry_count» ≤ maxEntries ⌝ }
-    requires { ⌜ «alpha_bits» ≤ 512 ⌝ }
-    requires { ⌜ «color_bits» ≤ 512 ⌝ }
+    requires { ⌜ «alpha_bits» ≤ 65 ⌝ }
+    requires { ⌜ «color_bits» ≤ 65 ⌝ }
     ensures { λ r. ⌜ r ≡ layoutOf «record» «alpha_bits» «color_bits» ⌝ }
 {
     let block = block_size(record);

@@ -3,7 +3,7 @@ use mathlib.Core.Path.{_≡_, sym, _∙_}
 use lib.ListN.{length, length-map}
 use borrow.Author.Needs.{needs}
 use Rattle.bpg_encode.proofs.AddingLaws.{added-then}
-use Rattle.bpg_encode.proofs.HeaderLaws.{header-held}
+use Rattle.bpg_encode.proofs.HeaderLaws.{header-short, header-gathered}
 use Rattle.bpg_encode.proofs.header.encode.Statement.{statement}
 use Rattle.bpg_encode.proofs.header.encode.Tie as tie
 
@@ -42,15 +42,17 @@ returns : tie.Need-returns
 returns c =
     let pcm = c .before .before .before .before in
     let sizes = pcm .before .before .before in
-    let start = sizes .before .before in
-    header-held (start .args .header) (nine start) (sizes .before .none .ensures)
-    (added-then (sizes .add-sizes .ensures)
-    (added-then (pcm .before .before .add-flag .ensures)
-    (added-then (pcm .before .add-flag2 .ensures)
-    (added-then (pcm .add-pcm .ensures)
-    (added-then (c .before .before .before .add-flag3 .ensures)
-    (added-then (c .before .before .add-flag4 .ensures)
-    (added-then (c .before .add-sps .ensures) (c .add .ensures))))))))
+    let start = sizes .before .before in (
+      header-gathered (start .args .header) (sizes .before .none .ensures)
+          (added-then (sizes .add-sizes .ensures)
+          (added-then (pcm .before .before .add-flag .ensures)
+          (added-then (pcm .before .add-flag2 .ensures)
+          (added-then (pcm .add-pcm .ensures)
+          (added-then (c .before .before .before .add-flag3 .ensures)
+          (added-then (c .before .before .add-flag4 .ensures)
+          (added-then (c .before .add-sps .ensures) (c .add .ensures)))))))),
+      λ depth rules. header-short depth (start .args .header) rules (nine start),
+    )
 
 pub encode-spec : {M : Type 1} → statement M
 encode-spec =

@@ -17,15 +17,15 @@ no-bits : (v : ℕ) → bits 0 v ≡ []
 unfolding bits
 no-bits v = refl
 
-field : (v n : ℕ) → n ≡ length (expGolombBits v) → bits (min n 64) (v + 1) ≡ expGolombBits v
+field : (v n : ℕ) → n ≡ length (expGolombBits v) → bits (min n 63) (v + 1) ≡ expGolombBits v
 field v n e = either-way (2 ^ 32 - 1) v none some
   where
-    none : 2 ^ 32 - 1 ≤ v → bits (min n 64) (v + 1) ≡ expGolombBits v
-    none h = let z : min n 64 ≡ 0 = omega (arith, ap length (expGolomb-none v h)) in rw (z, expGolomb-none v h) (no-bits (v + 1))
+    none : 2 ^ 32 - 1 ≤ v → bits (min n 63) (v + 1) ≡ expGolombBits v
+    none h = let z : min n 63 ≡ 0 = omega (arith, ap length (expGolomb-none v h)) in rw (z, expGolomb-none v h) (no-bits (v + 1))
 
-    some : v < 2 ^ 32 - 1 → bits (min n 64) (v + 1) ≡ expGolombBits v
+    some : v < 2 ^ 32 - 1 → bits (min n 63) (v + 1) ≡ expGolombBits v
     some h =
-        let m : min n 64 ≡ 2 * prefixZeros v + 1 = omega (arith, expGolomb-size v h, top v h .0 .most) in
+        let m : min n 63 ≡ 2 * prefixZeros v + 1 = omega (arith, expGolomb-size v h, top v h .0 .most) in
         rw m (sym (expGolomb-one-field v h))
 
 size-requires : tie.Need-size-requires

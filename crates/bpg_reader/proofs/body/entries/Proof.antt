@@ -1,10 +1,23 @@
 -- `body::entries` meets its contract. Assumes nothing.
-use mathlib.Core.Path.{_∙_}
-use Rattle.bpg_reader.specs.Bodies.{headFields}
-use Rattle.bpg_reader.proofs.EntryBlock.{block-too-large, block-region}
+use mathlib.Core.Path.{_≡_, _∙_}
+use lib.ListN.{take, drop}
+use Prim.Native.Nat.{_-_}
+use Rattle.bpg_entries.specs.Blocks.{blockAnswer, entriesIn}
+use Rattle.bpg_reader.specs.Bodies.{headFields, entriesOf, bodyStart}
+use Rattle.bpg_reader.proofs.EntryBlock.{block-too-large, block-empty, block-region}
 use borrow.Author.Needs.{needs}
 use Rattle.bpg_reader.proofs.body.entries.Statement.{statement}
 use Rattle.bpg_reader.proofs.body.entries.Tie as tie
+
+-- the block fits the file
+module _ (c : tie.Else1) where
+  abbrev start : tie.Start
+  start = c .before .before .before .before
+
+  region : let h = headFields (start .args .head) in
+      let file = start .args .file .now in
+      blockAnswer (h .end) (entriesIn (take (bodyStart h - 0) file) (h .end)) ≡ blockAnswer (h .end) (entriesOf h (drop (h .end) file))
+  region = block-region _ (start .pre .0) (headFields (start .args .head)) (start .pre .1) (c .if1 .left)
 
 cast-length : tie.Need-cast-length
 cast-length c = search needs
@@ -19,6 +32,14 @@ returns : tie.Need-returns
 returns c =
     let s = c .before .before .before .before .before in
     c .refused .ensures ∙ block-too-large _ (s .pre .0) (headFields (s .args .head)) (s .pre .1) (c .before .if1 .taken)
+
+none-requires : tie.Need-none-requires
+none-requires c κs = search needs
+
+returns-2 : tie.Need-returns-2
+returns-2 c =
+    let s = start (c .before .before) in
+    c .none .ensures ∙ block-empty _ (s .pre .0) (headFields (s .args .head)) (s .pre .1) (c .before .if2 .taken)
 
 add-end : tie.Need-add-end
 add-end c = search needs
@@ -35,11 +56,23 @@ part-read-end c = search needs
 read-requires : tie.Need-read-requires
 read-requires c κs = search needs
 
-returns-2 : tie.Need-returns-2
-returns-2 c =
-    let e = c .before .before .before in
-    let s = e .before .before .before .before in
-    c .read .ensures ∙ block-region _ (s .pre .0) (headFields (s .args .head)) (s .pre .1) (e .if1 .left)
+returns-3 : tie.Need-returns-3
+returns-3 c = c .read .ensures ∙ region (c .before .before .before .before .before)
+
+sub-read-2 : tie.Need-sub-read-2
+sub-read-2 c = search needs
+
+part-read-start-2 : tie.Need-part-read-start-2
+part-read-start-2 c = search needs
+
+part-read-end-2 : tie.Need-part-read-end-2
+part-read-end-2 c = search needs
+
+read-requires-2 : tie.Need-read-requires-2
+read-requires-2 c κs = search needs
+
+returns-4 : tie.Need-returns-4
+returns-4 c = c .read2 .ensures ∙ region (c .before .before .before .before .before)
 
 pub entries-spec : {M : Type 1} → statement M
 entries-spec =
@@ -49,9 +82,16 @@ entries-spec =
     sub-if1
     refused-requires
     returns
+    none-requires
+    returns-2
     add-end
     sub-read
     part-read-start
     part-read-end
     read-requires
-    returns-2)
+    returns-3
+    sub-read-2
+    part-read-start-2
+    part-read-end-2
+    read-requires-2
+    returns-4)

@@ -3,11 +3,12 @@ use mathlib.Core.Path.{ap}
 use mathlib.Core.List.{List, [], _++_}
 use Prim.Native.Nat.{ℕ}
 use native.Mathlib.Omega.{arith}
-use lib.ListN.{length, take}
+use lib.ListN.{length}
 use borrow.Author.Tests.{not-true, not-false}
 use Rattle.bpg_codec.specs.Bits.{bytesFor}
 use Rattle.bpg_codec.proofs.Select.{select-true}
 use Rattle.bpg_numbers.specs.Ue7.{ue7Bytes}
+use Rattle.bpg_numbers.specs.BitBuffer.{bufferBytes}
 use Rattle.bpg_writer.proofs.PutLaws.{put-absent, put-present, put-then}
 use borrow.Author.Needs.{needs}
 use Rattle.bpg_writer.proofs.emit.header.Statement.{statement}
@@ -40,9 +41,9 @@ returns-2 c =
     let e = w1 .before .before .before in
     let s = e .before .before in
     let n = bytesFor (s .args .bits .len .0) in
-    let l = ue7Bytes n ++ take n (s .args .bits .bytes) in
+    let l = ue7Bytes n ++ bufferBytes (s .args .bits) in
     put-present (s .args .out .now) (s .args .at .0) _ l _ _ (not-false _ (e .if1 .left))
-    (put-then (s .args .out .now) (s .args .at .0) (ue7Bytes n) (take n (s .args .bits .bytes)) _ _ _ _
+    (put-then (s .args .out .now) (s .args .at .0) (ue7Bytes n) (bufferBytes (s .args .bits)) _ _ _ _
     (omega (arith, s .pre .1, ap length (select-true {X = List ℕ} {b = s .args .present} l [] (not-false _ (e .if1 .left))))) (w1 .write .ensures) (w2 .write2 .ensures))
 
 pub header-spec : {M : Type 1} → statement M

@@ -5,14 +5,16 @@ use native.Mathlib.Omega.{arith}
 use borrow.Author.Needs.{needs}
 use borrow.Author.Tests.{not-true}
 use Rattle.bpg_numbers.specs.declared.bit_buffer.BitBuffer.{BitBuffer}
+use Rattle.bpg_numbers.proofs.BitBufferLaws.{gathered-most}
 use Rattle.bpg_format.specs.declared.record.Header.{Header}
+use Rattle.bpg_format.specs.Syntax.{headerBits}
 use Rattle.bpg_writer.specs.Parts.{Encoded}
 use Rattle.bpg_writer.proofs.file.encoded.Statement.{statement}
 use Rattle.bpg_writer.proofs.file.encoded.Tie as tie
 
 -- of an absent header nothing is said
 absent : {t : Bool} {h : Header} {b : BitBuffer} → t ≡ false → Encoded t h b
-absent e = record { len-is = λ there. absurd (true≢false (sym there ∙ e)); bytes-are = λ there. absurd (true≢false (sym there ∙ e)) }
+absent e = record { is = λ there. absurd (true≢false (sym there ∙ e)); short = λ there. absurd (true≢false (sym there ∙ e)) }
 
 none-requires : tie.Need-none-requires
 none-requires c κs = search needs
@@ -26,7 +28,7 @@ encode-requires c κs = search needs
 returns-2 : tie.Need-returns-2
 returns-2 c =
     let e = c .encode .ensures in
-    (omega (arith, e .1 .0), record { len-is = λ there. e .0; bytes-are = λ there. e .1 .1 .0 })
+    (omega (arith, ap (λ (b : BitBuffer). b .len .0) (e .0), gathered-most (headerBits (c .before .before .args .header))), record { is = λ there. e .0; short = λ there. e .1 })
 
 pub encoded-spec : {M : Type 1} → statement M
 encoded-spec = tie.close (tie.spec none-requires returns encode-requires returns-2)
