@@ -74,7 +74,7 @@ oneBit-lawful = mapped-lawful (unsigned-lawful 1) (λ b v. bit-of-bit b) (λ n v
 pub optional-lawful : {A : Type 0} (present : Bool) {c : Codec Bool A} (e : A) → Lawful Bit c → Lawful Bit (optional present c e)
 optional-lawful present e h = select-lawful present h (absent-lawful Bit e)
 
-sizes-lawful : Lawful Bit sizeFields
+pub sizes-lawful : Lawful Bit sizeFields
 unfolding sizeFields
 sizes-lawful =
     sequence-lawful expGolomb-lawful λ _. sequence-lawful expGolomb-lawful λ _. sequence-lawful expGolomb-lawful λ _.

@@ -3,5 +3,6 @@ pub mod FieldLaws
 pub mod AllFieldLaws
 pub mod RuleLaws
 pub mod PaddingLaws
+pub mod SizeLaws
 pub mod HeaderLaws
 pub mod BothHeaderLaws

@@ -33,7 +33,7 @@ low-bits n b h =
     subst (λ (k : ℕ). drop (8 - n) (bits k b) ≡ bits n b) e
     (rw (bits-append (8 - n) n b) (drop-at (bits (8 - n) (b / 2 ^ n)) (bits n b) (8 - n) (length-bits (8 - n) (b / 2 ^ n))))
 
-one-byte : (b : ℕ) → unpack (b ∷ []) ≡ bits 8 b
+pub one-byte : (b : ℕ) → unpack (b ∷ []) ≡ bits 8 b
 unfolding unpack
 one-byte b = append-nil (bits 8 b)
 

@@ -5,6 +5,7 @@ use crate::fields::Pcm;
 use crate::fields::Sizes;
 use crate::fields::Sps;
 use crate::range_flags;
+use crate::sizes;
 use bpg_format::Header;
 use bpg_format::zero_header;
 use bpg_numbers::BitPos;
@@ -69,7 +70,7 @@ pub(crate) fn read_rest(region: &[u8], at: BitPos, header: Header) -> Fields
 pub(crate) fn read(region: &[u8], at: BitPos) -> Fields
     ensures { λ r. ⌜ ((i : ℕ) → fieldsOutcome i r ≡ decodeAt (regionBits (now (region .entry))) headerFields i (at .0)) ⌝ }
 {
-    match fields::read_sizes(region, at) {
+    match sizes::read(region, at) {
         Sizes::Missing => missing(),
         Sizes::Value(min_cb, diff_cb, min_tb, diff_tb, depth, p) => match fields::read_flag(
             region,

@@ -5,4 +5,5 @@ pub mod header;
 pub mod headers;
 mod range_flags;
 pub mod rules;
+mod sizes;
 mod trailing;

@@ -2,7 +2,6 @@
 pub mod Shifts
 pub mod Ue7Laws
 pub mod BitNumberLaws
-pub mod WindowLaws
 pub mod BitBufferLaws
 pub mod Refusals
 pub mod Advances

@@ -15,10 +15,6 @@ use Rattle.bpg_codec.specs.Bits.{number, bits, zeros, unpack}
 abbrev pub regionBits : List ℕ → List Bool
 regionBits region = unpack (take (2 ^ 60) region)
 
--- the 16 bits from bit `at` of some bytes on as a number; zeros past the bytes
-abbrev pub windowAt : List ℕ → (at : ℕ) → ℕ
-windowAt l at = number (take 16 (drop at (unpack l) ++ zeros 16))
-
 -- u(n): the next n bits, the high bit first
 abbrev pub unsigned : ℕ → Codec Bool ℕ
 unsigned n =

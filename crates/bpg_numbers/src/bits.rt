@@ -9,7 +9,7 @@ ghost use Prim.Native.Nat.{ℕ, min, _*_, _<_};
 ghost use lib.ListN.{length, drop, getD};
 ghost use Rattle.bpg_codec.specs.Outcome.{located};
 ghost use Rattle.bpg_codec.specs.Bits.{bit as bitOf, unpack};
-ghost use Rattle.bpg_numbers.specs.BitNumbers.{regionBits, windowAt, unsigned};
+ghost use Rattle.bpg_numbers.specs.BitNumbers.{regionBits, unsigned};
 ghost use Rattle.bpg_numbers.specs.Answers.{bitOutcome};
 
 // A number and the position after it, or that the region does not hold one (for ue(v): also that z is above 31).
@@ -31,28 +31,6 @@ pub(crate) fn bit_inside(region: &[u8], k: usize) -> u64
     ensures { λ r. ⌜ r ≡ bitOf (getD (unpack (now (region .entry))) k false) ⌝ }
 {
     (wide(region[k / 8]) >> (7 - k % 8)) % 2
-}
-
-// The byte at k; 0 past the region.
-fn byte_at(region: &[u8], k: usize) -> u64
-    ensures { λ r. ⌜ r ≡ getD (now (region .entry)) k 0 ⌝ }
-    ensures { λ r. ⌜ r < 256 ⌝ }
-{
-    if region.len() <= k {
-        return 0;
-    }
-    wide(region[k])
-}
-
-// The 16 bits from `at` on as a number; zeros past the region.
-pub(crate) fn window(region: &[u8], at: usize) -> u32
-    ensures { λ r. ⌜ r ≡ windowAt (now (region .entry)) at ⌝ }
-    ensures { λ r. ⌜ r < 65536 ⌝ }
-{
-    let k = at / 8;
-    let high = byte_at(region, k) * 65_536;
-    let three = high + byte_at(region, k + 1) * 256 + byte_at(region, k + 2);
-    ((three >> (8 - at % 8)) % 65_536) as u32
 }
 
 // The next n bits as a number; n above 32 counts as 32.

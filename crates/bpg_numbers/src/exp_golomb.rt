@@ -1,6 +1,5 @@
 // The number code ue(v) of H.265, clause 9.2: z zero bits, a one, z further bits; the value is 2^z - 1 plus those bits.
 // z is at most 31, so 2^32 - 1 has no code.
-use crate::arithmetic::remaining;
 use crate::bits;
 use crate::bits::BitNumber;
 use crate::position::BitPos;
@@ -22,8 +21,9 @@ fn suffix(region: &[u8], at: BitPos, z: u32) -> BitNumber
     }
 }
 
-// The number at `at`, bit by bit.
-fn read_long(region: &[u8], at: BitPos) -> BitNumber
+// The number at `at`, bit by bit: it is for rare codes and long ones. The block sizes, which every header has, are read
+// from a word where their codes are short.
+pub fn read(region: &[u8], at: BitPos) -> BitNumber
     ensures { λ r. ⌜ ((i : ℕ) → bitOutcome i r ≡ located (expGolomb .decode i (at .0) (drop (at .0) (regionBits (now (region .entry)))))) ⌝ }
 {
     let end = bits::count(region);
@@ -40,21 +40,6 @@ fn read_long(region: &[u8], at: BitPos) -> BitNumber
         next += 1;
     }
     BitNumber::Missing
-}
-
-// The number at `at`. Most codes have at most seven zero bits: 16 bits show them whole.
-pub fn read(region: &[u8], at: BitPos) -> BitNumber
-    ensures { λ r. ⌜ ((i : ℕ) → bitOutcome i r ≡ located (expGolomb .decode i (at .0) (drop (at .0) (regionBits (now (region .entry)))))) ⌝ }
-{
-    let window = bits::window(region, at.0);
-    if window < 256 {
-        return read_long(region, at);
-    }
-    let size = 2 * (u32::leading_zeros(window) - 16) + 1;
-    if remaining(bits::count(region), at.0) < size as usize {
-        return read_long(region, at);
-    }
-    BitNumber::Value((window >> (16 - size)) - 1, BitPos(at.0 + size as usize))
 }
 
 // How many bits v takes: 2z + 1, or none where it has no code.

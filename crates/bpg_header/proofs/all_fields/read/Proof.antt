@@ -37,7 +37,7 @@ module _ (c : tie.After-known-told) where
   after = c .before .«min-cb» .given .0 .1 .1 .1 .1 .1 .0 .0
 
   sizes-are : (i : ℕ) → decodeAt bits sizeFields i at ≡ ok (sizes, after)
-  sizes-are i = sym (c .before .before .before .read-sizes .ensures i) ∙ ap (sizesOutcome i) (c .before .«min-cb» .given .1)
+  sizes-are i = sym (c .before .before .before .read .ensures i) ∙ ap (sizesOutcome i) (c .before .«min-cb» .given .1)
 
 -- and the sample adaptive offset flag
 module _ (c : tie.After-known-told2) where
@@ -68,8 +68,8 @@ module _ (c : tie.After-known-told4) where
       ≡ ok (pcms, c .before .luma .given .0 .1 .1 .1 .1 .1 .0 .0)
   pcm-is i = sym (c .before .before .before .read-optional-pcm .ensures i) ∙ ap (pcmOutcome i) (c .before .luma .given .1)
 
-read-sizes-requires : tie.Need-read-sizes-requires
-read-sizes-requires c κs = search needs
+read-requires : tie.Need-read-requires
+read-requires c κs = search needs
 
 enum-told : tie.Need-enum-told
 enum-told c = search needs
@@ -132,7 +132,7 @@ returns : tie.Need-returns
 returns c =
     λ i.
     let r = c .before .before .before in
-    ap (fieldsOutcome i) (c .missing .ensures) ∙ none i ∙ rw (fields-at, sym (r .read-sizes .ensures i) ∙ ap (sizesOutcome i) (c .before .enum-told .given .1))
+    ap (fieldsOutcome i) (c .missing .ensures) ∙ none i ∙ rw (fields-at, sym (r .read .ensures i) ∙ ap (sizesOutcome i) (c .before .enum-told .given .1))
 
 returns-2 : tie.Need-returns-2
 returns-2 c =
@@ -176,7 +176,7 @@ pub read-spec : {M : Type 1} → statement M
 read-spec =
     tie.close
     (tie.spec
-    read-sizes-requires
+    read-requires
     enum-told
     missing-requires
     enum-known-min-cb

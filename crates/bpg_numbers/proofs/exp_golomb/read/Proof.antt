@@ -1,96 +1,109 @@
--- `exp_golomb::read` meets its contract: the 16 bits show a short code whole. Assumes nothing.
-use Prim.Native.Nat.{_≤_}
+-- `exp_golomb::read` meets its contract. The invariant: counting on from the next bit gives what counting from the first does.
+-- Assumes nothing.
+use Prim.Native.Nat.{ℕ, _+_, _-_, _^_, _≤_, _<_}
+use mathlib.Core.Path.{_≡_, refl, sym, ap, _∙_}
+use mathlib.Core.Bool.{Bool, true, false}
+use mathlib.Core.List.{List, _∷_}
 use native.Mathlib.Omega.{arith}
-use Rattle.bpg_numbers.proofs.WindowLaws.{Zeros, zeros-of, plusOne, plusOne-positive, short-code}
+use lib.ListN.{length, take, drop, getD, length-take, drop-of-length-le}
 use borrow.Author.Needs.{needs}
+use Rattle.bpg_codec.specs.Outcome.{Outcome, error, located}
+use Rattle.bpg_codec.specs.Bits.{bit}
+use Rattle.bpg_codec.proofs.Bits.{bit-is-one, bit-not-one, length-unpack}
+use Rattle.bpg_codec.proofs.Lists.{drop-next}
+use Rattle.bpg_numbers.specs.BitNumbers.{regionBits, prefixDecode, expGolombSuffix, expGolomb}
+use Rattle.bpg_numbers.proofs.BitNumberLaws.{region-bit, prefix-end, prefix-one, prefix-zero, prefix-long}
 use Rattle.bpg_numbers.proofs.exp_golomb.read.Statement.{statement}
 use Rattle.bpg_numbers.proofs.exp_golomb.read.Tie as tie
 
--- at most seven zero bits
-module _ (c : tie.Else1) where
-  least : 256 ≤ c .before .window .result
-  least = c .if1 .left
+abbrev Inv-loop : tie.InvT-loop
+Inv-loop region end z₀ next₀ z next = (z ≤ 31) × ((i : ℕ) → prefixDecode i 0 next₀ (drop next₀ (regionBits region)) ≡ prefixDecode i z next (drop next (regionBits region)))
 
-  short : Zeros (c .before .window .result) least (c .before .window .ensures .1)
-  short = zeros-of (c .before .window .result) least (c .before .window .ensures .1)
+abbrev μ-loop : tie.MeasureT-loop
+μ-loop region end z₀ next₀ z next = end - next
 
--- the value plus 1 is at least 2^z
-positive : (c : tie.Else1) → 1 ≤ plusOne (c .before .window .result) (least c) (c .before .window .ensures .1)
-positive c = plusOne-positive (c .before .window .result) (least c) (c .before .window .ensures .1)
+-- ---- what each way out and each turn says of the definition
 
-window-requires : tie.Need-window-requires
-window-requires c κs = search needs
+module _ (start z next : ℕ) (l : List Bool) (i : ℕ) (inv : prefixDecode i 0 start (drop start l) ≡ prefixDecode i z next (drop next l)) where
+  abbrev all : Outcome (ℕ × ℕ)
+  all = located (expGolomb .decode i start (drop start l))
 
-read-long-requires : tie.Need-read-long-requires
-read-long-requires c κs = search needs
+  none : length l ≤ next → error 15 i ≡ all
+  none h = rw (inv, drop-of-length-le l h, prefix-end i z next)
 
-returns : tie.Need-returns
-returns c = search needs
+  module _ (h : next < length l) where
+    seen-bit : (b : Bool) → getD l next false ≡ b → prefixDecode i 0 start (drop start l) ≡ prefixDecode i z next (b ∷ drop (next + 1) l)
+    seen-bit b e = inv ∙ rw (drop-next l next false h, e)
 
-sub-size : tie.Need-sub-size
-sub-size c = omega (arith, short c .counted)
+    one : getD l next false ≡ true → located (expGolombSuffix i z (next + 1) (drop (next + 1) l)) ≡ all
+    one e = rw (seen-bit true e, prefix-one i z next (drop (next + 1) l))
 
-mul-size : tie.Need-mul-size
-mul-size c = omega (arith, short c .few)
+    long : 31 ≤ z → getD l next false ≡ false → error 15 i ≡ all
+    long k e = rw (seen-bit false e, prefix-long i z next (drop (next + 1) l) k)
 
-add-size : tie.Need-add-size
-add-size c = omega (arith, short c .few)
+    more : z < 31 → getD l next false ≡ false → prefixDecode i 0 start (drop start l) ≡ prefixDecode i (z + 1) (next + 1) (drop (next + 1) l)
+    more k e = seen-bit false e ∙ prefix-zero i z next (drop (next + 1) l) k
 
-count-requires : tie.Need-count-requires
+-- ---- the needs
+
+-- the bit that was looked at
+seen : (c : tie.After-bit-inside Inv-loop μ-loop)
+    → c .bit-inside .result ≡ bit (getD (regionBits (c .before .before .before .before .before .args .region .now)) (c .before .before .loop .next) false)
+seen c = c .bit-inside .ensures ∙ ap bit (region-bit (c .before .before .before .before .before .args .region .now) (c .before .before .loop .next) (omega arith))
+
+count-requires : tie.Need-count-requires Inv-loop μ-loop
 count-requires c κs = search needs
 
-remaining-requires : tie.Need-remaining-requires
-remaining-requires c κs = search needs
+loop-holds : tie.Need-loop-holds Inv-loop μ-loop
+loop-holds c = (omega arith, λ i. refl)
 
-cast-if2 : tie.Need-cast-if2
-cast-if2 c = omega (arith, short (c .before .before) .few)
+bit-inside-requires : tie.Need-bit-inside-requires Inv-loop μ-loop
+bit-inside-requires c κs =
+    let l = c .before .before .before .before .args .region .now in
+    omega (arith, length-unpack (take (2 ^ 60) l), length-take (2 ^ 60) l)
 
-read-long-requires-2 : tie.Need-read-long-requires-2
-read-long-requires-2 c κs = search needs
+add-t8 : tie.Need-add-t8 Inv-loop μ-loop
+add-t8 c = omega arith
 
-returns-2 : tie.Need-returns-2
-returns-2 c = search needs
+suffix-requires : tie.Need-suffix-requires Inv-loop μ-loop
+suffix-requires c κs = omega arith
 
-sub-t8 : tie.Need-sub-t8
-sub-t8 c = omega (arith, short (c .before .before .before) .few)
+returns : tie.Need-returns Inv-loop μ-loop
+returns c = λ i. c .suffix .ensures i ∙ one _ _ _ _ i (c .before .before .before .before .loop .inv .1 i) (omega arith) (bit-is-one _ (sym (seen (c .before .before)) ∙ c .before .if1 .taken))
 
-shr-t6 : tie.Need-shr-t6
-shr-t6 c = search needs
+returns-2 : tie.Need-returns-2 Inv-loop μ-loop
+returns-2 c = λ i. long _ _ _ _ i (c .before .before .before .before .loop .inv .1 i) (omega arith) (omega arith) (bit-not-one _ (λ e. c .before .if1 .left (seen (c .before .before) ∙ e)))
 
-sub-t7 : tie.Need-sub-t7
-sub-t7 c = positive (c .before .before .before)
+add-z : tie.Need-add-z Inv-loop μ-loop
+add-z c = omega arith
 
-cast-t11 : tie.Need-cast-t11
-cast-t11 c = search needs
+add-next : tie.Need-add-next Inv-loop μ-loop
+add-next c = omega arith
 
-add-t9 : tie.Need-add-t9
-add-t9 c = search needs
+loop-less : tie.Need-loop-less Inv-loop μ-loop
+loop-less c = omega arith
 
-returns-3 : tie.Need-returns-3
-returns-3 c =
-    let e = c .before .before .before .before in
-    let w = e .before .window in
-    let a = e .before .before .before .args in
-    λ i. short-code (a .region .now) (w .result) i (a .at .0) _ (w .ensures .0) (least e) (w .ensures .1) (omega (arith, positive e)) (omega arith)
+loop-again : tie.Need-loop-again Inv-loop μ-loop
+loop-again c = (omega arith, λ i. more _ _ _ _ i (c .before .before .before .before .loop .inv .1 i) (omega arith) (omega arith) (bit-not-one _ (λ e. c .before .if1 .left (seen (c .before .before) ∙ e))))
+
+returns-3 : tie.Need-returns-3 Inv-loop μ-loop
+returns-3 c = λ i. none _ _ _ _ i (c .before .loop .inv .1 i) (omega arith)
 
 pub read-spec : {M : Type 1} → statement M
 read-spec =
     tie.close
     (tie.spec
-    window-requires
-    read-long-requires
-    returns
-    sub-size
-    mul-size
-    add-size
+    Inv-loop
+    μ-loop
     count-requires
-    remaining-requires
-    cast-if2
-    read-long-requires-2
+    loop-holds
+    bit-inside-requires
+    add-t8
+    suffix-requires
+    returns
     returns-2
-    sub-t8
-    shr-t6
-    sub-t7
-    cast-t11
-    add-t9
+    add-z
+    add-next
+    loop-less
+    loop-again
     returns-3)
