@@ -7,7 +7,7 @@ use native.Mathlib.Nat.{pow-suc, zero-add, mod-eq-of-lt, mod-one, zero-div}
 use native.Mathlib.Omega.{arith}
 use lib.Dec.{eqb}
 use lib.Pow.{mod-pow-add, high, shr-shr}
-use lib.ListN.{length, take, drop, getD, replicate, replicate-append-replicate, length-append, length-drop, take-append-drop, List·getD-append}
+use lib.ListN.{length, take, drop, getD, length-append, length-drop, take-append-drop, List·getD-append}
 use lib.Seq.{getD-append-add, take-at, drop-at, length-take-le, drop-nil, take-nil}
 use Rattle.bpg_codec.specs.Lawful.{All, Byte}
 use Rattle.bpg_codec.specs.Bits.{bit, numberFrom, number, bitAt, bits, zeros, unpack, pack}
@@ -109,11 +109,6 @@ getD-bits (suc n) v (suc j) h = let e : suc n - 1 - suc j ≡ n - 1 - j = omega 
 
 eight : (n : ℕ) → 8 * suc n ≡ 8 + 8 * n
 eight n = omega arith
-
-pub unpack-zeros : (n : ℕ) → unpack (replicate n 0) ≡ zeros (8 * n)
-unfolding unpack
-unpack-zeros zero = refl
-unpack-zeros (suc n) = rw (bits-zero 8, unpack-zeros n, eight n) (replicate-append-replicate 8 (8 * n) false)
 
 pub length-unpack : (l : List ℕ) → length (unpack l) ≡ 8 * length l
 unfolding unpack
