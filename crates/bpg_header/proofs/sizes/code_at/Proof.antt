@@ -47,7 +47,7 @@ shr-t9 : tie.Need-shr-t9
 shr-t9 c = search needs
 
 sub-t10 : tie.Need-sub-t10
-sub-t10 c = some c
+sub-t10 c = omega (arith, some c)
 
 cast-t11 : tie.Need-cast-t11
 cast-t11 c = omega (arith, plusOne-small (moved c) (small c) (few c))
