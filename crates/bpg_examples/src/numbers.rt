@@ -2,7 +2,7 @@
 //
 // A case is a byte that says what to run, n, the position, and the bytes.
 //   0  ue7(n) read at a byte position            3  the bytes as a number, written as ue7 into a buffer of n bytes
-//   1  n bits read at a bit position             4  n bits of the number appended to a bit buffer of twice the position in bits
+//   1  n bits read at a bit position             4  n bits of the number appended to a bit buffer of so many bits
 //   2  ue(v) read at a bit position              5  the number appended as ue(v) to an empty bit buffer, written into n bytes
 // A buffer is filled with a5 first.
 use crate::hex;
@@ -69,16 +69,13 @@ fn write_ue7(space: &mut [u8], size: usize, at: usize, v: u64) {
 fn append(n: u32, at: usize, v: u64) {
     let b = bit_buffer::append(
         BitBuffer {
-            bytes: [0xa5; 64],
+            bits: 0xa5a5_a5a5_a5a5_a5a5,
             len: BitPos(at),
         },
         n,
         v,
     );
-    show_pair(b" bits ", n as u64, b" len ", b.len.0);
-    let bytes = b.bytes;
-    text::show(b" ");
-    hex::show_bytes(&bytes);
+    show_pair(b" number ", b.bits, b" len ", b.len.0);
 }
 
 fn append_exp_golomb(space: &mut [u8], size: usize, at: usize, v: u64) {
@@ -102,7 +99,7 @@ fn run(kind: u8, n: u8, at: u8, s: &[u8]) {
         1 => show_bits(bits::read(s, BitPos(place), width)),
         2 => show_bits(exp_golomb::read(s, BitPos(place))),
         3 => write_ue7(&mut space, n as usize, place, number(s)),
-        4 => append(width, 2 * place, number(s)),
+        4 => append(width, place, number(s)),
         _ => append_exp_golomb(&mut space, n as usize, place, number(s)),
     }
 }
