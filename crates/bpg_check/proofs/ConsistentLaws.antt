@@ -16,7 +16,7 @@ use Rattle.bpg_format.specs.Content.{isEmpty}
 use Rattle.bpg_format.specs.Rules.{hasLoop, noLoop}
 use Rattle.bpg_format.specs.Records.{extensionOf, usedEntries, contentOf}
 use Rattle.bpg_format.specs.Write.{absentZero, headerZero, sameLoop, consistent}
-use Rattle.bpg_header.specs.Fields.{withFlags}
+use Rattle.bpg_fields.specs.Fields.{withFlags}
 use Rattle.bpg_check.specs.Check.{recordLoop}
 
 -- the default of an element in range is never read

@@ -26,10 +26,10 @@ use Rattle.bpg_format.specs.declared.record.Header.{Header}
 use Rattle.bpg_format.specs.FileCodec.{noForbiddenBit, hevcAllowed, headerFields}
 use Rattle.bpg_format.specs.Read.{readFields, readHeader}
 use Rattle.bpg_format.proofs.Chain.{fields-chain}
-use Rattle.bpg_header.specs.declared.all_fields.Fields.{Fields}
-use Rattle.bpg_header.specs.AllFields.{fieldsOutcome}
+use Rattle.bpg_fields.specs.declared.all_fields.Fields.{Fields}
+use Rattle.bpg_fields.specs.AllFields.{fieldsOutcome}
 use Rattle.bpg_header.specs.Headers.{refusedHeader, headerAnswer, isPadding, fieldsIn, headerIn}
-use Rattle.bpg_header.proofs.AllFieldLaws.{fields-advance}
+use Rattle.bpg_fields.proofs.AllFieldLaws.{fields-advance}
 
 -- a region that is no longer than a file is read to its end
 all-bits : (region : List ℕ) → length region ≤ maxFile → regionBits region ≡ unpack region

@@ -1,8 +1,5 @@
--- Laws of the readers of a HEVC header.
-pub mod FieldLaws
-pub mod AllFieldLaws
+-- Laws of the readers of HEVC headers.
 pub mod RuleLaws
 pub mod PaddingLaws
-pub mod SizeLaws
 pub mod HeaderLaws
 pub mod BothHeaderLaws

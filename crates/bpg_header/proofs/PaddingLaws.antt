@@ -1,7 +1,7 @@
 -- The bits after a header's last field. Assumes nothing.
 use mathlib.Core.Path.{_≡_, refl, sym, ap, _∙_, subst}
 use mathlib.Core.Bool.{Bool, true, false}
-use mathlib.Core.List.{List, [], _∷_, append-nil}
+use mathlib.Core.List.{List, [], _∷_}
 use Prim.Native.Nat.{ℕ, _+_, _-_, _*_, _/_, _%_, _^_, _≤_, _<_}
 use native.Mathlib.Omega.{arith}
 use lib.Dec.{eqb}
@@ -11,7 +11,7 @@ use lib.Seq.{drop-drop, drop-at, getD-take}
 use borrow.Author.Tests.{ne-eqb, lt-ltb, le-ltb}
 use Rattle.bpg_codec.specs.Bits.{numberFrom, number, allZero, bits, unpack}
 use Rattle.bpg_codec.proofs.Lists.{drop-next}
-use Rattle.bpg_codec.proofs.Bits.{numberFrom-bounds, numberFrom-bits, bits-append, length-bits, length-unpack, unpack-drop}
+use Rattle.bpg_codec.proofs.Bits.{numberFrom-bounds, numberFrom-bits, bits-append, length-bits, unpack-one, length-unpack, unpack-drop}
 use Rattle.bpg_numbers.specs.BitNumbers.{regionBits}
 use Rattle.bpg_header.specs.Headers.{isPadding}
 
@@ -33,10 +33,6 @@ low-bits n b h =
     subst (λ (k : ℕ). drop (8 - n) (bits k b) ≡ bits n b) e
     (rw (bits-append (8 - n) n b) (drop-at (bits (8 - n) (b / 2 ^ n)) (bits n b) (8 - n) (length-bits (8 - n) (b / 2 ^ n))))
 
-pub one-byte : (b : ℕ) → unpack (b ∷ []) ≡ bits 8 b
-unfolding unpack
-one-byte b = append-nil (bits 8 b)
-
 -- fewer than eight bits are left: they are in the last byte
 last-bits : (l : List ℕ) (p n : ℕ) → p + n ≡ 8 * length l → 0 < n → n < 8 → drop p (unpack l) ≡ bits n (getD l (p / 8) 0)
 last-bits l p n e some few =
@@ -45,7 +41,7 @@ last-bits l p n e some few =
     drop-next l (p / 8) 0 (omega arith) ∙ ap (λ (r : List ℕ). getD l (p / 8) 0 ∷ r) (drop-of-length-le l {i = p / 8 + 1} (omega arith)) in
     sym (ap (λ (k : ℕ). drop k (unpack l)) at)
     ∙ sym (drop-drop (8 - n) (8 * (p / 8)) (unpack l))
-    ∙ ap (drop (8 - n)) (sym (unpack-drop (p / 8) l) ∙ ap unpack last ∙ one-byte (getD l (p / 8) 0))
+    ∙ ap (drop (8 - n)) (sym (unpack-drop (p / 8) l) ∙ ap unpack last ∙ unpack-one (getD l (p / 8) 0))
     ∙ low-bits n (getD l (p / 8) 0) (omega arith)
 
 module _ (bits : List Bool) (p : ℕ) where

@@ -1,6 +1,3 @@
--- What the readers of a HEVC header answer.
-pub mod Fields
-pub mod Sizes
-pub mod AllFields
+-- What the readers of HEVC headers answer.
 pub mod Headers
 pub mod BothHeaders

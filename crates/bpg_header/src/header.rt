@@ -1,7 +1,7 @@
 // A HEVC header in its file: a length in bytes, and then the fields in bits.
-use crate::all_fields;
 use crate::rules;
 use crate::trailing;
+use bpg_fields::all_fields;
 use bpg_format::Header;
 use bpg_format::MAX_FILE;
 use bpg_format::zero_header;

@@ -1,9 +1,5 @@
-// The HEVC header of a BPG file: its fields, and the rules that they keep.
-mod all_fields;
-mod fields;
+// The HEVC headers of a BPG file: lengths, trailing bits, and the rules that the fields keep.
 pub mod header;
 pub mod headers;
-mod range_flags;
 pub mod rules;
-mod sizes;
 mod trailing;

@@ -7,7 +7,7 @@ use lib.ListN.{length, set, length-map}
 use Rattle.bpg_format.specs.declared.record.Header.{Header}
 use Rattle.bpg_format.specs.Zero.{zeroHeader}
 use Rattle.bpg_format.proofs.record.Header as header-type
-use Rattle.bpg_header.specs.Fields.{withFlags}
+use Rattle.bpg_fields.specs.Fields.{withFlags}
 use Rattle.bpg_canonical.specs.Records.{canonicalHeader, recordWith}
 use Rattle.bpg_canonical.proofs.RecordLaws.{change-both}
 use borrow.Author.Needs.{needs}

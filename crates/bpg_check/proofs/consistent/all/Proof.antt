@@ -7,7 +7,7 @@ use native.Mathlib.Omega.{arith}
 use lib.ListN.{length, getD, length-map}
 use borrow.Author.Tests.{not-true, not-false}
 use Rattle.bpg_format.specs.Zero.{zeroHeader}
-use Rattle.bpg_header.specs.Fields.{withFlags}
+use Rattle.bpg_fields.specs.Fields.{withFlags}
 use Rattle.bpg_format.specs.Write.{absentZero}
 use Rattle.bpg_format.proofs.record.Header as header-type
 use Rattle.bpg_check.proofs.ConsistentLaws.{header-at, block, control, alpha, block-misfit, control-misfit, alpha-misfit, alpha-fields, color-decides}

@@ -1,0 +1,68 @@
+-- `fields::read_depths` meets its contract: one after the other. Assumes nothing.
+use mathlib.Core.Path.{_≡_, sym, ap, _∙_}
+use mathlib.Core.Bool.{Bool}
+use mathlib.Core.List.{List}
+use Prim.Native.Nat.{ℕ}
+use Rattle.bpg_codec.specs.Outcome.{ok}
+use Rattle.bpg_codec.specs.Codec.{decodeAt}
+use Rattle.bpg_numbers.specs.BitNumbers.{regionBits, unsigned}
+use Rattle.bpg_numbers.specs.Answers.{bitOutcome}
+use Rattle.bpg_fields.proofs.FieldLaws.{depths-at}
+use borrow.Author.Needs.{needs}
+use Rattle.bpg_fields.proofs.fields.read_depths.Statement.{statement}
+use Rattle.bpg_fields.proofs.fields.read_depths.Tie as tie
+
+read-requires : tie.Need-read-requires
+read-requires c κs = search needs
+
+enum-told : tie.Need-enum-told
+enum-told c = search needs
+
+enum-known-luma : tie.Need-enum-known-luma
+enum-known-luma c = search needs
+
+read-requires-2 : tie.Need-read-requires-2
+read-requires-2 c κs = search needs
+
+enum-told-2 : tie.Need-enum-told-2
+enum-told-2 c = search needs
+
+enum-known-chroma : tie.Need-enum-known-chroma
+enum-known-chroma c = search needs
+
+-- the first was read
+module _ (c : tie.After-known-told) where
+  abbrev bits : List Bool
+  bits = regionBits (c .before .before .before .before .before .args .region .now)
+
+  abbrev at : ℕ
+  at = c .before .before .before .before .before .args .at .0
+
+  abbrev first : ℕ × ℕ
+  first = (c .before .luma .given .0 .0, c .before .luma .given .0 .1 .0 .0)
+
+  first-is : (i : ℕ) → decodeAt bits (unsigned 4) i at ≡ ok first
+  first-is i = sym (c .before .before .before .read .ensures i) ∙ ap (bitOutcome i) (c .before .luma .given .1)
+
+returns : tie.Need-returns
+returns c = λ i. let r = c .before .before in rw (depths-at, sym (r .read .ensures i) ∙ ap (bitOutcome i) (c .enum-told .given .1))
+
+returns-2 : tie.Need-returns-2
+returns-2 c = λ i. let r = c .before .before in rw (depths-at, first-is (r .before) i, sym (r .read2 .ensures i) ∙ ap (bitOutcome i) (c .enum-told2 .given .1))
+
+returns-3 : tie.Need-returns-3
+returns-3 c = λ i. let r = c .before .before .before in rw (depths-at, first-is (r .before) i, sym (r .read2 .ensures i) ∙ ap (bitOutcome i) (c .before .chroma .given .1))
+
+pub read-depths-spec : {M : Type 1} → statement M
+read-depths-spec =
+    tie.close
+    (tie.spec
+    read-requires
+    enum-told
+    enum-known-luma
+    read-requires-2
+    enum-told-2
+    enum-known-chroma
+    returns
+    returns-2
+    returns-3)

@@ -1,0 +1,25 @@
+-- `fields::read_flag` meets its contract: one bit, as a flag. Assumes nothing.
+use mathlib.Core.Path.{sym, ap, _∙_}
+use Rattle.bpg_numbers.specs.Answers.{bitOutcome}
+use Rattle.bpg_fields.proofs.FieldLaws.{flag-at}
+use borrow.Author.Needs.{needs}
+use Rattle.bpg_fields.proofs.fields.read_flag.Statement.{statement}
+use Rattle.bpg_fields.proofs.fields.read_flag.Tie as tie
+
+read-requires : tie.Need-read-requires
+read-requires c κs = search needs
+
+enum-told : tie.Need-enum-told
+enum-told c = search needs
+
+enum-known-value : tie.Need-enum-known-value
+enum-known-value c = search needs
+
+returns : tie.Need-returns
+returns c = λ i. let r = c .before .before in rw (flag-at, sym (r .read .ensures i) ∙ ap (bitOutcome i) (c .enum-told .given .1))
+
+returns-2 : tie.Need-returns-2
+returns-2 c = λ i. let r = c .before .before .before in rw (flag-at, sym (r .read .ensures i) ∙ ap (bitOutcome i) (c .before .value .given .1))
+
+pub read-flag-spec : {M : Type 1} → statement M
+read-flag-spec = tie.close (tie.spec read-requires enum-told enum-known-value returns returns-2)

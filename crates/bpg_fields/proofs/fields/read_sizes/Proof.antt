@@ -1,0 +1,104 @@
+-- `fields::read_sizes` meets its contract: two pairs, and the field after them. Assumes nothing.
+use mathlib.Core.Path.{_≡_, sym, ap, _∙_}
+use mathlib.Core.Bool.{Bool}
+use mathlib.Core.List.{List}
+use Prim.Native.Nat.{ℕ}
+use Rattle.bpg_codec.specs.Outcome.{ok}
+use Rattle.bpg_codec.specs.Codec.{decodeAt}
+use Rattle.bpg_numbers.specs.BitNumbers.{regionBits}
+use Rattle.bpg_numbers.specs.Answers.{bitOutcome}
+use Rattle.bpg_fields.specs.Fields.{codePair, pairOutcome}
+use Rattle.bpg_fields.proofs.FieldLaws.{sizes-at}
+use borrow.Author.Needs.{needs}
+use Rattle.bpg_fields.proofs.fields.read_sizes.Statement.{statement}
+use Rattle.bpg_fields.proofs.fields.read_sizes.Tie as tie
+
+read-codes-requires : tie.Need-read-codes-requires
+read-codes-requires c κs = search needs
+
+enum-told : tie.Need-enum-told
+enum-told c = search needs
+
+enum-known-min-cb : tie.Need-enum-known-min-cb
+enum-known-min-cb c = search needs
+
+read-codes-requires-2 : tie.Need-read-codes-requires-2
+read-codes-requires-2 c κs = search needs
+
+enum-told-2 : tie.Need-enum-told-2
+enum-told-2 c = search needs
+
+enum-known-min-tb : tie.Need-enum-known-min-tb
+enum-known-min-tb c = search needs
+
+read-requires : tie.Need-read-requires
+read-requires c κs = search needs
+
+enum-told-3 : tie.Need-enum-told-3
+enum-told-3 c = search needs
+
+enum-known-depth : tie.Need-enum-known-depth
+enum-known-depth c = search needs
+
+-- the first pair was read
+module _ (c : tie.After-known-told) where
+  abbrev bits : List Bool
+  bits = regionBits (c .before .before .before .before .before .args .region .now)
+
+  abbrev at : ℕ
+  at = c .before .before .before .before .before .args .at .0
+
+  abbrev first : (ℕ × ℕ) × ℕ
+  first = ((c .before .min-cb .given .0 .0, c .before .min-cb .given .0 .1 .0), c .before .min-cb .given .0 .1 .1 .0 .0)
+
+  first-is : (i : ℕ) → decodeAt bits codePair i at ≡ ok first
+  first-is i = sym (c .before .before .before .read-codes .ensures i) ∙ ap (pairOutcome i) (c .before .min-cb .given .1)
+
+-- and the second
+module _ (c : tie.After-known-told2) where
+  abbrev before : tie.After-known-told
+  before = c .before .before .before .before
+
+  abbrev second : (ℕ × ℕ) × ℕ
+  second = ((c .before .min-tb .given .0 .0, c .before .min-tb .given .0 .1 .0), c .before .min-tb .given .0 .1 .1 .0 .0)
+
+  second-is : (i : ℕ) → decodeAt (bits before) codePair i (first before .1) ≡ ok second
+  second-is i = sym (c .before .before .before .read-codes2 .ensures i) ∙ ap (pairOutcome i) (c .before .min-tb .given .1)
+
+returns : tie.Need-returns
+returns c = λ i. let r = c .before .before in rw (sizes-at, sym (r .read-codes .ensures i) ∙ ap (pairOutcome i) (c .enum-told .given .1))
+
+returns-2 : tie.Need-returns-2
+returns-2 c = λ i. let r = c .before .before in rw (sizes-at, first-is (r .before) i, sym (r .read-codes2 .ensures i) ∙ ap (pairOutcome i) (c .enum-told2 .given .1))
+
+returns-3 : tie.Need-returns-3
+returns-3 c =
+    λ i.
+    let r = c .before .before in
+    let b = r .before in
+    rw (sizes-at, first-is (before b) i, second-is b i, sym (r .read .ensures i) ∙ ap (bitOutcome i) (c .enum-told3 .given .1))
+
+returns-4 : tie.Need-returns-4
+returns-4 c =
+    λ i.
+    let r = c .before .before .before in
+    let b = r .before in
+    rw (sizes-at, first-is (before b) i, second-is b i, sym (r .read .ensures i) ∙ ap (bitOutcome i) (c .before .depth .given .1))
+
+pub read-sizes-spec : {M : Type 1} → statement M
+read-sizes-spec =
+    tie.close
+    (tie.spec
+    read-codes-requires
+    enum-told
+    enum-known-min-cb
+    read-codes-requires-2
+    enum-told-2
+    enum-known-min-tb
+    read-requires
+    enum-told-3
+    enum-known-depth
+    returns
+    returns-2
+    returns-3
+    returns-4)
