@@ -1,6 +1,6 @@
 -- A block with one more entry at its end: entries, bytes, loop numbers. Assumes nothing.
 use mathlib.Core.Path.{_≡_, refl, sym, ap, _∙_, subst}
-use mathlib.Core.Bool.{Bool, true, false, _||_}
+use mathlib.Core.Bool.{Bool, true, false, _||_, or-false, or-assoc}
 use mathlib.Core.List.{List, [], _∷_, _++_, append-assoc}
 use Prim.Native.Nat.{ℕ, suc, _+_, _-_, _<_}
 use native.Mathlib.Omega.{arith}
@@ -13,40 +13,9 @@ use Rattle.bpg_format.specs.declared.record.Entry.{Entry}
 use Rattle.bpg_format.specs.Zero.{range, zeroEntry}
 use Rattle.bpg_format.specs.Content.{Extension, Loop}
 use Rattle.bpg_format.specs.Syntax.{extensionBytes, blockBytes}
-use Rattle.bpg_format.specs.Rules.{isLoop, hasLoop, noLoop}
+use Rattle.bpg_format.specs.Rules.{isLoop, hasLoop}
 use Rattle.bpg_format.specs.FileCodec.{loopOf, loopIn}
 use Rattle.bpg_format.specs.Records.{entriesAt, padEntries}
-use Rattle.bpg_entries.specs.Animations.{loopAnswer}
-
--- choices by a test, as `||` and as `select`
-last : (b : Bool) → (b || false) ≡ select b true false
-unfolding select
-last true = refl
-last false = refl
-
-before : (a b c : Bool) → (a || select b true c) ≡ select b true (a || c)
-unfolding select
-before true true c = refl
-before true false c = refl
-before false true c = refl
-before false false c = refl
-
-pub or-select : (a b : Bool) → (a || b) ≡ select b true a
-unfolding select
-or-select true true = refl
-or-select true false = refl
-or-select false true = refl
-or-select false false = refl
-
-pub answer-select : (b : Bool) (p q : Loop) → select b (loopAnswer p) (loopAnswer q) ≡ loopAnswer (select b p q)
-unfolding select
-answer-select true p q = refl
-answer-select false p q = refl
-
-no-loop : (b : Bool) (p : Loop) → select b p noLoop ≡ select b (select b p noLoop) noLoop
-unfolding select
-no-loop true p = refl
-no-loop false p = refl
 
 earlier : (a b c : Bool) → (b ≡ true → (a || c) ≡ false) → (p q r s : Loop) → ((b ≡ true → c ≡ false) → q ≡ select b r s)
     → select a p q ≡ select b r (select a p s)
@@ -82,15 +51,15 @@ module _ (e : Extension) where
       let n2 = length-append (extensionBytes x) (blockBytes es) in
       omega (arith, bytes-snoc es)
 
-  pub has-snoc : (es : List Extension) → hasLoop (es ++ one) ≡ select (isLoop e) true (hasLoop es)
-  has-snoc [] = last (isLoop e)
-  has-snoc (x ∷ es) = rw (has-snoc es) (before (isLoop x) (isLoop e) (hasLoop es))
+  pub has-snoc : (es : List Extension) → hasLoop (es ++ one) ≡ (hasLoop es || isLoop e)
+  has-snoc [] = or-false (isLoop e)
+  has-snoc (x ∷ es) = rw (has-snoc es, or-assoc)
 
   -- the last has tag 5 only where none before it has
-  pub loop-snoc : (es : List Extension) → (isLoop e ≡ true → hasLoop es ≡ false) → loopOf (es ++ one) ≡ select (isLoop e) (loopOf one) (loopOf es)
+  pub loop-snoc : (es : List Extension) → (isLoop e ≡ true → hasLoop es ≡ false) → loopOf (es ++ one) ≡ select (isLoop e) (loopIn (e .payload)) (loopOf es)
   unfolding loopOf
-  loop-snoc [] h = no-loop (isLoop e) (loopIn (e .payload))
-  loop-snoc (x ∷ es) h = earlier (isLoop x) (isLoop e) (hasLoop es) h (loopIn (x .payload)) (loopOf (es ++ one)) (loopOf one) (loopOf es) (loop-snoc es)
+  loop-snoc [] h = refl
+  loop-snoc (x ∷ es) h = earlier (isLoop x) (isLoop e) (hasLoop es) h (loopIn (x .payload)) (loopOf (es ++ one)) (loopIn (e .payload)) (loopOf es) (loop-snoc es)
 
 -- the entry at the end takes the place of the first zero entry
 set-end : (es : List Entry) (x y : Entry) (l : List Entry) → set (es ++ (y ∷ l)) (length es) x ≡ es ++ (x ∷ l)

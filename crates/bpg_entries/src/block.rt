@@ -65,14 +65,17 @@ pub fn read(region: &[u8], at: BytePos) -> Block
             return refused(step.status, step.offset);
         }
         let entry = step.entry;
-        let found = step.animation;
         entries[entry_count as usize] = entry;
         entry_count += 1;
+        next = step.next;
         if entry.tag == 5 {
+            let found = animation::read(&region[0..next], BytePos(entry.payload.start as usize));
+            if found.status != 0 {
+                return refused(found.status, found.offset);
+            }
             animated = true;
             animation = found;
         }
-        next = step.next;
     }
     Block {
         status: 0,

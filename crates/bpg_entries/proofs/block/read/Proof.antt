@@ -1,26 +1,25 @@
 -- `block::read` meets its contract. The invariant is `Reading`: the entries so far stand in the block. Assumes nothing.
 use mathlib.Core.Path.{_≡_, sym, ap, _∙_, subst}
-use mathlib.Core.Bool.{Bool, true, false}
+use mathlib.Core.Bool.{Bool, false}
 use mathlib.Core.List.{List}
 use Prim.Native.Nat.{ℕ, _+_, _-_, _<_}
 use native.Mathlib.Omega.{arith}
-use lib.Dec.{eqb}
-use lib.ListN.{drop, set, replicate}
+use lib.ListN.{drop, replicate}
 use borrow.Author.Needs.{needs}
-use borrow.Author.Tests.{eq-eqb, ne-eqb}
-use Rattle.bpg_codec.specs.Select.{select}
+use Rattle.bpg_codec.specs.Outcome.{Outcome, error}
 use Rattle.bpg_codec.specs.Lawful.{All, Byte}
-use Rattle.bpg_codec.proofs.Select.{select-true, select-false}
 use Rattle.bpg_codec.proofs.Tokens.{all-bytes}
 use Rattle.bpg_format.specs.Limits.{maxEntries}
 use Rattle.bpg_format.specs.declared.record.Entry.{Entry}
-use Rattle.bpg_format.specs.Read.{readEntries}
+use Rattle.bpg_format.specs.Content.{Extension}
+use Rattle.bpg_format.specs.Read.{readEntry, readEntries}
 use Rattle.bpg_entries.specs.declared.animation.Animation.{Animation}
 use Rattle.bpg_entries.specs.declared.entry.Step.{Step}
 use Rattle.bpg_entries.specs.declared.block.Block.{Block}
 use Rattle.bpg_entries.specs.Animations.{refusedAnimation}
-use Rattle.bpg_entries.specs.Blocks.{blockAnswer, entriesIn}
-use Rattle.bpg_entries.proofs.BlockLaws.{Reading, begins, ends, full, stops, goes-on, count-most, too-long, in-region}
+use Rattle.bpg_entries.specs.Blocks.{refusedBlock, blockAnswer, entriesIn}
+use Rattle.bpg_entries.proofs.EntryLaws.{Started, step-refused, step-started, plain-read, numbers-refused, numbers-read}
+use Rattle.bpg_entries.proofs.BlockLaws.{Reading, begins, ends, full, stops, goes-on, animates, count-most, too-long, in-region}
 use Rattle.bpg_entries.proofs.block.read.Statement.{statement}
 use Rattle.bpg_entries.proofs.block.read.Tie as tie
 
@@ -91,13 +90,24 @@ read-requires c κs = search needs
 refused-requires-4 : tie.Need-refused-requires-4 Inv-loop μ-loop
 refused-requires-4 c κs = search needs
 
+-- the step
+module _ (c : tie.After-read Inv-loop μ-loop) where
+  abbrev turn : tie.At-loop Inv-loop μ-loop
+  turn = c .before .before .before
+
+  abbrev step : Step
+  step = c .read .result
+
+  abbrev entry : Outcome (Extension × ℕ × List ℕ)
+  entry = readEntry (turn .loop .animated) (turn .loop .next) (drop (turn .loop .next) (region turn))
+
+  ends-with : (s o : ℕ) → entry ≡ error s o → refusedBlock s o ≡ blockAnswer (at turn) (entriesIn (region turn) (at turn))
+  ends-with s o e = stops _ _ (block turn) _ (turn .loop .inv) (c .before .before .loop-test .taken) (c .before .if2 .left) s o e ∙ ap (blockAnswer (at turn)) (short turn)
+
 returns-3 : tie.Need-returns-3 Inv-loop μ-loop
 returns-3 c =
     let r = c .before .before .before in
-    let l = r .before .before .before in
-    c .refused4 .ensures
-    ∙ stops _ _ (block l) _ (l .loop .inv) (r .before .before .loop-test .taken) (r .before .if2 .left) (r .read .result) (r .read .ensures) (c .before .if3 .taken)
-    ∙ ap (blockAnswer (at l)) (short l)
+    c .refused4 .ensures ∙ ends-with r _ _ (step-refused _ _ _ (step r) (r .read .ensures) (c .before .if3 .taken))
 
 cast-entries : tie.Need-cast-entries Inv-loop μ-loop
 cast-entries c = search needs
@@ -111,42 +121,69 @@ array-set-from-entries c = search needs
 add-entry-count : tie.Need-add-entry-count Inv-loop μ-loop
 add-entry-count c = search needs
 
--- the entry was read and stored
+-- the entry was found and stored
 module _ (c : tie.After-struct-known2 Inv-loop μ-loop) where
   abbrev read : tie.After-read Inv-loop μ-loop
-  read = c .before .before .before .before .before
+  read = c .before .before .before .before
 
-  abbrev turn : tie.At-loop Inv-loop μ-loop
-  turn = read .before .before .before
+  here : Started (region (turn read)) (turn read .loop .animated) (turn read .loop .next) (step read)
+  here = step-started _ _ _ (step read) (read .read .ensures) (omega (arith, read .before .before .loop-test .taken)) (c .before .before .if3 .left)
 
-  abbrev step : Step
-  step = read .read .result
-
-  less : maxEntries - (turn .loop .entry-count + 1) < maxEntries - turn .loop .entry-count
+  less : maxEntries - (turn read .loop .entry-count + 1) < maxEntries - turn read .loop .entry-count
   less = omega (arith, read .before .if2 .left)
 
-  stored : (animated : Bool) (animation : Animation)
-      → select (eqb (step .entry .tag) 5) true (turn .loop .animated) ≡ animated
-      → select (eqb (step .entry .tag) 5) (step .animation) (turn .loop .animation) ≡ animation
-      → Reading (region turn) (at turn) (made (set (turn .loop .entries) (turn .loop .entry-count) (step .entry)) (turn .loop .entry-count + 1) animated animation) (step .next)
-  stored =
-      goes-on _ _ (block turn) _ (turn .loop .inv) (read .before .before .loop-test .taken) (read .before .if2 .left) step (read .read .ensures) (bytes turn)
-      (c .before .before .before .if3 .left)
+sub-read : tie.Need-sub-read Inv-loop μ-loop
+sub-read c = search needs
+
+part-read-start : tie.Need-part-read-start Inv-loop μ-loop
+part-read-start c = search needs
+
+part-read-end : tie.Need-part-read-end Inv-loop μ-loop
+part-read-end c = omega (arith, here (c .before) .inside)
+
+cast-t24 : tie.Need-cast-t24 Inv-loop μ-loop
+cast-t24 c = search needs
+
+read-requires-2 : tie.Need-read-requires-2 Inv-loop μ-loop
+read-requires-2 c κs = search needs
+
+refused-requires-5 : tie.Need-refused-requires-5 Inv-loop μ-loop
+refused-requires-5 c κs = search needs
+
+returns-4 : tie.Need-returns-4 Inv-loop μ-loop
+returns-4 c =
+    let f = c .before .before .before in
+    let t = f .before .before .before in
+    let d = t .before in
+    c .refused5 .ensures
+    ∙ ends-with (read d) _ _ (numbers-refused _ _ _ (step (read d)) (here d) (t .if4 .taken) (f .read2 .result) (f .read2 .ensures) (c .before .if5 .taken))
 
 loop-less : tie.Need-loop-less Inv-loop μ-loop
-loop-less c = less (c .before)
+loop-less c = less (c .before .before .before .before .before .before)
 
 loop-again : tie.Need-loop-again Inv-loop μ-loop
-loop-again c = let tag = eq-eqb _ _ (c .if4 .taken) in stored (c .before) _ _ (select-true _ _ tag) (select-true _ _ tag)
+loop-again c =
+    let f = c .before .before in
+    let t = f .before .before .before in
+    let d = t .before in
+    let r = read d in
+    let l = turn r in
+    let n = numbers-read _ _ _ (step r) (here d) (t .if4 .taken) (f .read2 .result) (f .read2 .ensures) (bytes l) (c .if5 .left) in
+    animates _ _ (block l) _ (l .loop .inv) (r .before .before .loop-test .taken) (r .before .if2 .left) (bytes l) (step r) (here d) (n .0) (t .if4 .taken) (f .read2 .result) (n .1)
 
 loop-less-2 : tie.Need-loop-less-2 Inv-loop μ-loop
 loop-less-2 c = less (c .before)
 
 loop-again-2 : tie.Need-loop-again-2 Inv-loop μ-loop
-loop-again-2 c = let tag = ne-eqb _ _ (c .if4 .left) in stored (c .before) _ _ (select-false _ _ tag) (select-false _ _ tag)
+loop-again-2 c =
+    let d = c .before in
+    let r = read d in
+    let l = turn r in
+    let plain = plain-read _ _ _ (step r) (here d) (c .if4 .left) in
+    goes-on _ _ (block l) _ (l .loop .inv) (r .before .before .loop-test .taken) (r .before .if2 .left) (bytes l) (step r) (here d) plain (c .if4 .left)
 
-returns-4 : tie.Need-returns-4 Inv-loop μ-loop
-returns-4 c = let l = c .before in ends _ _ (block l) _ (l .loop .inv) (c .loop-test .left) ∙ ap (blockAnswer (at l)) (short l)
+returns-5 : tie.Need-returns-5 Inv-loop μ-loop
+returns-5 c = let l = c .before in ends _ _ (block l) _ (l .loop .inv) (c .loop-test .left) ∙ ap (blockAnswer (at l)) (short l)
 
 pub read-spec : {M : Type 1} → statement M
 read-spec =
@@ -169,8 +206,15 @@ read-spec =
     mul-entries
     array-set-from-entries
     add-entry-count
+    sub-read
+    part-read-start
+    part-read-end
+    cast-t24
+    read-requires-2
+    refused-requires-5
+    returns-4
     loop-less
     loop-again
     loop-less-2
     loop-again-2
-    returns-4)
+    returns-5)

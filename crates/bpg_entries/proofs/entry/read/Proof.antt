@@ -1,16 +1,16 @@
--- `entry::read` meets its contract: the two numbers, then `with_size`. Assumes nothing.
-use mathlib.Core.Path.{_≡_, ap, _∙_}
+-- `entry::read` meets its contract: each way out is a case of how an entry starts. Assumes nothing.
+use mathlib.Core.Path.{_≡_, _∙_}
 use mathlib.Core.List.{List}
 use Prim.Native.Nat.{ℕ, _≤_}
+use native.Mathlib.Omega.{arith}
 use lib.ListN.{length, drop}
 use borrow.Author.Needs.{needs}
 use Rattle.bpg_codec.specs.Outcome.{ok}
 use Rattle.bpg_codec.proofs.Positions.{within}
 use Rattle.bpg_numbers.specs.Ue7.{ue7}
 use Rattle.bpg_numbers.proofs.Advances.{ue7-advances}
-use Rattle.bpg_entries.specs.Entries.{stepAnswer}
 use Rattle.bpg_numbers.proofs.ReadAt.{value-read, refusal-read}
-use Rattle.bpg_entries.proofs.EntryLaws.{tag-refused, size-refused, both-read}
+use Rattle.bpg_entries.proofs.EntryLaws.{tag-refused, size-refused, too-long, second, started}
 use Rattle.bpg_entries.proofs.entry.read.Statement.{statement}
 use Rattle.bpg_entries.proofs.entry.read.Tie as tie
 
@@ -79,28 +79,57 @@ module _ (c : tie.After-known-told4) where
       within (ue7-advances 32) (region first) (after first) (after first)
       (within (ue7-advances 32) (region first) (at first) (at first) (start first .pre .1) _ (tag-is first)) _ size-is
 
-with-size-requires : tie.Need-with-size-requires
-with-size-requires c κs = (start (first c) .pre .0, inside c)
+sub-if1 : tie.Need-sub-if1
+sub-if1 c = inside (c .before)
+
+cast-if1 : tie.Need-cast-if1
+cast-if1 c = search needs
+
+refused-requires-3 : tie.Need-refused-requires-3
+refused-requires-3 c κs = search needs
 
 returns : tie.Need-returns
 returns c =
+    let d = c .before .before .before in
+    let f = first d in
+    c .refused3 .ensures ∙ too-long (region f) (at f) _ (tag f) (after f) (tag-is f) (size d) (payload d) (size-is d) (c .before .if1 .taken)
+
+refused-requires-4 : tie.Need-refused-requires-4
+refused-requires-4 c κs = search needs
+
+returns-2 : tie.Need-returns-2
+returns-2 c =
+    let e = c .before .before in
+    let d = e .before .before in
+    let f = first d in
+    c .refused4 .ensures ∙ second (region f) (at f) _ (tag f) (after f) (tag-is f) (size d) (payload d) (size-is d) (e .if1 .left) (c .before .if2 .taken)
+
+found-requires : tie.Need-found-requires
+found-requires c κs =
+    let e = c .before in
+    let d = e .before .before in
+    omega (arith, inside d, e .if1 .left, start (first d) .pre .0)
+
+returns-3 : tie.Need-returns-3
+returns-3 c =
     let r = c .before .before .before .before in
     c .refused .ensures
     ∙ tag-refused _ _ _ _ _ (refusal-read (ue7-advances 32) _ _ (r .read .result) (r .read .ensures) _ _ (c .before .before .status .given .1))
 
-returns-2 : tie.Need-returns-2
-returns-2 c =
+returns-4 : tie.Need-returns-4
+returns-4 c =
     let r = c .before .before .before .before in
     let f = r .before in
     c .refused2 .ensures
     ∙ size-refused (region f) (at f) _ (tag f) (after f) (tag-is f) _ _
     (refusal-read (ue7-advances 32) _ _ (r .read2 .result) (r .read2 .ensures) _ _ (c .before .before .status2 .given .1))
 
-returns-3 : tie.Need-returns-3
-returns-3 c =
-    let d = c .before in
+returns-5 : tie.Need-returns-5
+returns-5 c =
+    let e = c .before .before in
+    let d = e .before .before in
     let f = first d in
-    c .with-size .ensures ∙ ap stepAnswer (both-read (region f) (at f) _ (tag f) (after f) (tag-is f) (size d) (payload d) (size-is d))
+    c .found .ensures ∙ started (region f) (at f) _ (tag f) (after f) (tag-is f) (size d) (payload d) (size-is d) (e .if1 .left) (c .before .if2 .left)
 
 pub read-spec : {M : Type 1} → statement M
 read-spec =
@@ -114,7 +143,13 @@ read-spec =
     enum-known-status-2
     refused-requires-2
     enum-known-size
-    with-size-requires
+    sub-if1
+    cast-if1
+    refused-requires-3
     returns
+    refused-requires-4
     returns-2
-    returns-3)
+    found-requires
+    returns-3
+    returns-4
+    returns-5)

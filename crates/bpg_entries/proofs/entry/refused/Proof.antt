@@ -6,11 +6,8 @@ use Rattle.bpg_entries.proofs.entry.refused.Tie as tie
 zero-entry-requires : tie.Need-zero-entry-requires
 zero-entry-requires c κs = search needs
 
-refused-requires : tie.Need-refused-requires
-refused-requires c κs = search needs
-
 returns : tie.Need-returns
 returns c = cc
 
 pub refused-spec : {M : Type 1} → statement M
-refused-spec = tie.close (tie.spec zero-entry-requires refused-requires returns)
+refused-spec = tie.close (tie.spec zero-entry-requires returns)
