@@ -2,7 +2,7 @@
 use mathlib.Core.Path.{_≡_, refl, sym, ap, _∙_, subst}
 use mathlib.Core.Bool.{Bool, true, false, not, _&&_, _||_, or-true}
 use mathlib.Core.List.{List, [], _∷_}
-use Prim.Native.Nat.{ℕ, _-_, _^_, _<_}
+use Prim.Native.Nat.{ℕ, _^_, _<_}
 use lib.Dec.{T, eqb, ltb→lt}
 use lib.ListN.{length, replicate}
 use mir.Facts.{eqb-yes}
@@ -22,7 +22,7 @@ use Rattle.bpg_format.specs.FileCodec.{loopNumbers, noForbiddenBit, hevc
 use Rattle.bpg_format.specs.Write.{pcmZero, absentZero, headerZero, sameLoop, atZero, checkLoop, checkEntries, coded, fieldsCoded, checkHeader}
 use Rattle.bpg_format.proofs.FileLaws.{loopNumbers-lawful}
 use Rattle.bpg_format.proofs.HeaderRuleLaws.{unless, unless-full, forbidden-sound, forbidden-full, hevc-sound, hevc-full}
-use Rattle.bpg_format.proofs.RuleLaws.{bool-apart, by-tag, one-of, neither, loopOfNumbers, numbersOf, numbers-sound, numbers-full, none-seen, seen-none}
+use Rattle.bpg_format.proofs.RuleLaws.{bool-apart, by-tag, loopOfNumbers, numbersOf, numbers-sound, numbers-full, none-seen, seen-head, seen-tail}
 
 -- either flag, or a test
 pub or-test : (a b : Bool) → T (a || b) → a ≡ false → T b
@@ -267,8 +267,8 @@ pub entries-pass : (p : Loop) (seen : Bool) (es : List Extension) → All (Exten
 unfolding checkEntries
 entries-pass p seen [] r o f = refl
 entries-pass p seen (e ∷ es) r o f =
-    let n = is-true (not (seen && isLoop e)) (seen-none seen (isLoop e) (λ h. neither (isLoop e) (hasLoop es) (f h) .0)) in
+    let n = is-true (not (seen && isLoop e)) (seen-head seen (isLoop e) (hasLoop es) f) in
     let l : select (isLoop e) (checkLoop p (e .payload)) (ok tt) ≡ ok tt =
     by-tag (isLoop e) (λ l. select-true _ _ l ∙ (let d = r .0 .loop l in loop-passes p (e .payload) (d .0) (d .1))) (λ l. select-false _ _ l) in
     rw (n, l)
-    (entries-pass p (seen || isLoop e) es (r .1) (o .1) (λ h. one-of seen (isLoop e) h (λ g. neither (isLoop e) (hasLoop es) (f g) .1) (λ l. o .0 l)))
+    (entries-pass p (seen || isLoop e) es (r .1) (o .1) (seen-tail seen (isLoop e) (hasLoop es) f (o .0)))

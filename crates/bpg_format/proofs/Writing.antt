@@ -1,11 +1,11 @@
 -- The writer's definition answers 0 exactly for writable records, and then the bytes are the syntax's file. Assumes nothing.
 use mathlib.Core.Path.{_≡_, refl, sym, ap, _∙_, subst}
 use mathlib.Core.Bool.{Bool, true, false, not, _&&_, _||_}
-use mathlib.Core.List.{List, [], _∷_, _++_, map}
+use mathlib.Core.List.{List, [], _∷_, map}
 use Prim.Native.Nat.{ℕ, _+_, _-_, _^_, _≤_, _<_}
 use native.Mathlib.Omega.{arith}
 use lib.Dec.{T, leb, eqb, leb→le}
-use lib.ListN.{length, drop, replicate, length-map, length-take, length-append}
+use lib.ListN.{length, drop, replicate, length-map, length-take}
 use lib.Seq.{drop-at}
 use mir.Facts.{eqb-yes, eqb-no, no-eqb}
 use borrow.Author.Tests.{le-leb}
@@ -21,13 +21,13 @@ use Rattle.bpg_format.specs.declared.record.Entry.{Entry}
 use Rattle.bpg_format.specs.declared.record.Record.{Record}
 use Rattle.bpg_format.specs.Zero.{zeroEntry, zeroHeader}
 use Rattle.bpg_format.specs.Content.{isEmpty, Extension, Content, hasAlpha, bitDepth}
-use Rattle.bpg_format.specs.Syntax.{extensionBytes, blockBytes, fileOf}
+use Rattle.bpg_format.specs.Syntax.{blockBytes, fileOf}
 use Rattle.bpg_format.specs.Rules.{hasLoop, noLoop, Rules}
 use Rattle.bpg_format.specs.FileCodec.{colorSpaceAllowed}
 use Rattle.bpg_format.specs.Records.{entriesAt, blockStart, recordOf, extensionOf, usedEntries, contentOf}
 use Rattle.bpg_format.specs.Write.{inSource, entriesInSource, rangesInSource, isZero, zeroEntries, unusedZero, absentZero, headerZero, sameLoop, consistent, checkEntries, checkHeader, checkContent, sizedFile, writeOutcome, Typed, Writable}
 use Rattle.bpg_format.proofs.HeaderRuleLaws.{unless, unless-full}
-use Rattle.bpg_format.proofs.RuleLaws.{bool-apart, by-tag, flags-sound, flags-full}
+use Rattle.bpg_format.proofs.RuleLaws.{bool-apart, by-tag, flags-sound, flags-full, entry-size}
 use Rattle.bpg_format.proofs.RecordLaws.{used-entries, entries-length, content-record}
 use Rattle.bpg_format.proofs.RangeLaws.{start-after, data-end}
 use Rattle.bpg_format.proofs.WriteLaws.{same-loop, or-test, or-full, Absent, absent-sound, absent-full, absent-of, header-zero-sound, header-zero-full, zero-absent, header-checked, header-passes, TypedExtension, entries-checked, entries-pass}
@@ -229,9 +229,7 @@ entries-within [] p n h = tt
 entries-within (x ∷ es) p n h =
     let tag = ue7Bytes (x .tag) in
     let size = ue7Bytes (length (x .payload)) in
-    let n1 = length-append (extensionBytes x) (blockBytes es) in
-    let n2 = length-append tag (size ++ x .payload) in
-    let n3 = length-append size (x .payload) in
+    let whole = entry-size x es in
     (omega arith, entries-within es (p + length tag + length size + length (x .payload)) n (omega arith))
 
 padding-zero : (n : ℕ) → All (λ (e : Entry). e ≡ zeroEntry) (replicate n zeroEntry)
