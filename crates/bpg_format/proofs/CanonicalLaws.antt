@@ -8,11 +8,11 @@ use borrow.Author.Tests.{not-false}
 use lib.ListN.{length, replicate, length-append, length-map}
 use Rattle.bpg_codec.specs.Select.{select}
 use Rattle.bpg_codec.specs.Lawful.{All, Byte}
-use Rattle.bpg_codec.specs.Bits.{zeros, allZero, padded}
+use Rattle.bpg_codec.specs.Bits.{allZero, padded}
 use Rattle.bpg_codec.proofs.Select.{select-true, select-false}
 use Rattle.bpg_codec.proofs.Tokens.{all-append}
 use Rattle.bpg_codec.proofs.Bits.{length-bits}
-use Rattle.bpg_codec.proofs.Packed.{length-padded, zeros-allZero}
+use Rattle.bpg_codec.proofs.Packed.{length-padded}
 use Rattle.bpg_numbers.specs.Ue7.{ue7Bytes}
 use Rattle.bpg_numbers.proofs.Ue7Laws.{size-grows, bytes-ue7}
 use Rattle.bpg_format.specs.declared.record.Header.{Header}
@@ -22,6 +22,7 @@ use Rattle.bpg_format.specs.Content.{isEmpty, Extension, Loop, Content, 
 use Rattle.bpg_format.specs.Syntax.{blockBytes, extensionPart, spsExtensionBits, headerBits, headerBytes, bodyBytes, dataLength, fileOf}
 use Rattle.bpg_format.specs.Rules.{NoPcm, PcmRules, FieldRules, HeaderRules, LoopPayload, isLoop, ExtensionRules, hasLoop, OneLoop, noLoop, Rules}
 use Rattle.bpg_format.specs.Pictures.{pictureHeader, pictureEntry, pictureOf, headerWith, needsRange, loopBytes, entryWith, withChoices, canonicalContent}
+use Rattle.bpg_format.proofs.HeaderRuleLaws.{nine-zeros}
 use Rattle.bpg_format.proofs.RuleLaws.{bool-apart, by-tag, file-size, body-size}
 
 -- ---- headers
@@ -30,7 +31,7 @@ abbrev canonical : Header → Header
 canonical h = headerWith (needsRange (pictureHeader h)) (needsRange (pictureHeader h)) (pictureHeader h)
 
 all-zero-nine : (l : List Bool) → length l ≡ 9 → not (allZero l) ≡ false → l ≡ replicate 9 false
-all-zero-nine l n e = zeros-allZero l (rw (not-false (allZero l) e) tt) ∙ ap zeros n
+all-zero-nine l n e = nine-zeros l n (rw (not-false (allZero l) e) tt)
 
 nine-zero : (l : List Bool) → l ≡ replicate 9 false → not (allZero l) ≡ false
 nine-zero l e = rw e

@@ -1,5 +1,5 @@
 -- A header is valid for its codec exactly when it keeps the rules by name and its length has a code. Assumes nothing.
-use mathlib.Core.Path.{_≡_, refl}
+use mathlib.Core.Path.{_≡_, refl, ap, _∙_}
 use mathlib.Core.Bool.{Bool, true, false, not, _||_}
 use mathlib.Core.List.{List}
 use Prim.Native.Nat.{ℕ, _^_, _≤_, _<_}
@@ -9,12 +9,13 @@ use lib.ListN.{length, replicate}
 use mir.Facts.{eqb-yes, yes-eqb}
 use Rattle.bpg_codec.specs.Select.{select}
 use Rattle.bpg_codec.specs.Codec.{Codec, atItem}
-use Rattle.bpg_codec.specs.Bits.{Bit, padded}
+use Rattle.bpg_codec.specs.Bits.{Bit, zeros, allZero, padded}
 use Rattle.bpg_codec.specs.Parts.{sequence, mapped, guarded, sized, item, absent, fixed}
 use Rattle.bpg_codec.specs.Regions.{packed}
 use Rattle.bpg_codec.proofs.Select.{select-true, select-false, and-left, and-right, and-both, is-false}
 use Rattle.bpg_codec.proofs.Tokens.{all-bits}
 use Rattle.bpg_codec.proofs.Bits.{bit-small}
+use Rattle.bpg_codec.proofs.Packed.{zeros-allZero}
 use Rattle.bpg_format.specs.declared.record.Header.{Header}
 use Rattle.bpg_format.specs.Syntax.{headerBits}
 use Rattle.bpg_format.specs.Rules.{Coded, NoPcm, NoSpsExtension, FieldRules, ForbiddenBits, PcmRules, HevcRules, HeaderRules}
@@ -89,6 +90,9 @@ nine-length : (b : Bool) (l : List Bool) → optional b (fixed Bit 9 15 atItem) 
 unfolding select absent fixed
 nine-length true l v = v .1
 nine-length false l v = rw v
+
+pub nine-zeros : (l : List Bool) → length l ≡ 9 → T (allZero l) → l ≡ replicate 9 false
+nine-zeros l n t = zeros-allZero l t ∙ ap zeros n
 
 one-bit-valid : (b : Bool) → oneBit .Valid b
 unfolding mapped

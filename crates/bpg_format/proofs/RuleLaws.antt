@@ -9,6 +9,7 @@ use lib.ListN.{length, length-append}
 use mir.Facts.{eqb-no, no-eqb}
 use borrow.Author.Tests.{eq-eqb, eqb-true}
 use Rattle.bpg_codec.specs.Select.{select}
+use Rattle.bpg_codec.specs.Outcome.{ok}
 use Rattle.bpg_codec.specs.Codec.{Exact}
 use Rattle.bpg_codec.specs.Lawful.{All, Byte}
 use Rattle.bpg_codec.specs.Bits.{padded}
@@ -50,11 +51,12 @@ unfolding loopNumbers thenRest period guarded rest
 numbers-full l p dummy r = search no-eqb depth 7
 
 -- the numbers that the payload holds
+pub loop-decodes : (l : List ℕ) (p : Loop) (dummy : List ℕ) → LoopPayload l p dummy → loopNumbers .decode 0 0 l ≡ ok (numbersOf p dummy)
+loop-decodes l p dummy r = let n = numbers-full l p dummy r in ap (loopNumbers .decode 0 0) (n .1) ∙ loopNumbers-lawful .decodes (numbersOf p dummy) (n .0) 0 0
+
 pub loop-in : (l : List ℕ) (p : Loop) (dummy : List ℕ) → LoopPayload l p dummy → loopIn l ≡ p
 unfolding loopIn
-loop-in l p dummy r =
-    let n = numbers-full l p dummy r in
-    ap loopFrom (ap (loopNumbers .decode 0 0) (n .1) ∙ loopNumbers-lawful .decodes (numbersOf p dummy) (n .0) 0 0)
+loop-in l p dummy r = ap loopFrom (loop-decodes l p dummy r)
 
 -- what a payload that can be read is
 abbrev Readable : List ℕ → Type 0
