@@ -21,7 +21,7 @@ use Rattle.bpg_format.specs.Zero.{zeroHeader}
 use Rattle.bpg_format.specs.Content.{isEmpty, Extension, Loop, Content, hasAlpha}
 use Rattle.bpg_format.specs.Syntax.{blockBytes, extensionPart, spsExtensionBits, headerBits, headerBytes, bodyBytes, dataLength, fileOf}
 use Rattle.bpg_format.specs.Rules.{NoPcm, PcmRules, FieldRules, HeaderRules, LoopPayload, isLoop, ExtensionRules, hasLoop, OneLoop, noLoop, Rules}
-use Rattle.bpg_format.specs.Pictures.{pictureHeader, pictureEntry, pictureOf, headerWith, needsRange, loopBytes, entryWith, withChoices, canonicalContent}
+use Rattle.bpg_format.specs.Pictures.{Choices, canonicalChoices, pictureHeader, pictureEntry, pictureOf, headerWith, needsRange, loopBytes, entryWith, withChoices, canonicalContent}
 use Rattle.bpg_format.proofs.HeaderRuleLaws.{nine-zeros}
 use Rattle.bpg_format.proofs.RuleLaws.{bool-apart, by-tag, file-size, body-size}
 
@@ -141,20 +141,24 @@ module _ (p : Loop) where
       let ih = entries-shorter es (r .1) in
       simp length-append (omega (arith, simp length-append at n))
 
-  payload-same : (e : Extension) → pictureEntry (canonicalEntry p e) .payload ≡ pictureEntry e .payload
-  payload-same e =
-      by-tag (isLoop e) (λ l. select-true _ _ l ∙ sym (select-true _ _ l)) (λ l. select-false _ _ l ∙ entry-other e l ∙ sym (select-false _ _ l))
-
-  entries-same : (es : List Extension) → map pictureEntry (canonicalEntries es) ≡ map pictureEntry es
-  entries-same [] = refl
-  entries-same (e ∷ es) =
-      ap₂ _∷_ (ap {B = Extension} (λ (l : List ℕ). record { tag = e .tag; payload = l }) (payload-same e)) (entries-same es)
-
 -- ---- the content
 
+-- the choices do not change the picture
+pub choices-keep : (c : Content) (ch : Choices) → pictureOf (withChoices (pictureOf c) ch) ≡ pictureOf c
+unfolding pictureOf withChoices
+choices-keep c ch = rw (entries-keep (c .loop) (ch .dummy) (c .extensions))
+  where
+    payload-keep : (p : Loop) (d : List ℕ) (e : Extension) → select (isLoop e) [] (select (isLoop e) (loopBytes p d) (select (isLoop e) [] (e .payload))) ≡ select (isLoop e) [] (e .payload)
+    payload-keep p d e =
+        by-tag (isLoop e) (λ l. select-true _ _ l ∙ sym (select-true _ _ l)) (λ l. select-false _ _ l ∙ select-false _ _ l)
+
+    entries-keep : (p : Loop) (d : List ℕ) (es : List Extension) → map pictureEntry (map (entryWith p d) (map pictureEntry es)) ≡ map pictureEntry es
+    entries-keep p d [] = refl
+    entries-keep p d (e ∷ es) = ap₂ _∷_ (ap {B = Extension} (λ (l : List ℕ). record { tag = e .tag; payload = l }) (payload-keep p d e)) (entries-keep p d es)
+
 pub same-picture : (c : Content) → pictureOf (canonicalContent c) ≡ pictureOf c
-unfolding pictureOf withChoices canonicalContent
-same-picture c = rw (entries-same (c .loop) (c .extensions))
+unfolding canonicalContent
+same-picture c = choices-keep c (canonicalChoices (pictureOf c))
 
 -- with no header where there is no alpha plane
 select-shorter : (b : Bool) (l m : List ℕ) → (b ≡ true → length l ≤ length m) → length (select b l []) ≤ length (select b m [])

@@ -56,9 +56,9 @@ module _ (h : Header) where
   unfolding absentZero
   absent-sound t = search (passed, or-test, or-left, or-right)
 
-  pub absent-full : Absent → absentZero h ≡ true
+  pub absent-full : Absent → T (absentZero h)
   unfolding absentZero
-  absent-full r = is-true _ (search (passes, or-full, pcm-full, sps-full, r .no-pcm, r .no-extension, r .no-range))
+  absent-full r = search (passes, or-full, pcm-full, sps-full, r .no-pcm, r .no-extension, r .no-range)
 
   -- ---- headers: 15, 17, 16
 
@@ -100,9 +100,9 @@ header-zero-sound h t n =
     let fields : fieldsOf h ≡ fieldsOf zeroHeader = cc in
     ap headerFrom fields
 
-pub zero-absent : absentZero zeroHeader ≡ true
+pub zero-absent : T (absentZero zeroHeader)
 unfolding absentZero
-zero-absent = refl
+zero-absent = tt
 
 pub header-zero-full : (h : Header) → h ≡ zeroHeader → T (headerZero h)
 unfolding headerZero absentZero
