@@ -17,7 +17,7 @@ use Rattle.bpg_format.specs.declared.record.Record.{Record}
 use Rattle.bpg_format.specs.Zero.{range}
 use Rattle.bpg_export.specs.Numbers.{headNumbers, rangeNumbers, entryNumbers, entriesNumbers, loopNumbers, headerNumbers, headersNumbers, numbersOf, entriesAt, rangeFlagsAt, headerAt, recordOf, beginsWith, numbersFit}
 use Rattle.bpg_export.specs.Typing.{OfBits, TypedHeader, TypedRecord}
-use Rattle.bpg_export.proofs.NumberLaws.{by-nine, entries-length, header-length}
+use Rattle.bpg_export.proofs.NumberLaws.{by-length, entries-length, header-length}
 
 flag : (t : Bool) → eqb (bit t % 2) 1 ≡ t
 flag true = refl
@@ -53,7 +53,7 @@ entries-back (e ∷ es) rest a =
 
 flags-back : (l : List Bool) (rest : List ℕ) → length l ≡ 9 → rangeFlagsAt (map bit l ++ rest) 0 ≡ l
 unfolding rangeFlagsAt
-flags-back l rest = by-nine (λ m. rangeFlagsAt (map bit m ++ rest) 0 ≡ m) (λ a b c d e f g h i. simp flag) l
+flags-back l rest = by-length 9 (λ m. rangeFlagsAt (map bit m ++ rest) 0 ≡ m) (λ a b c d e f g h i. simp flag) l
 
 header-back : (h : Header) (rest : List ℕ) → TypedHeader h → headerAt (headerNumbers h ++ rest) 0 ≡ h
 unfolding headerAt headerNumbers
@@ -75,14 +75,12 @@ past a b l n e k = ap₂ (λ (m : ℕ) (x : List ℕ). drop m x) (sym k) e ∙ d
 headers-back : (hs : List Header) (l rest : List ℕ) → length hs ≡ 2 → All TypedHeader hs → drop 63 l ≡ headersNumbers hs ++ rest
     → (headerAt l 63 ∷ headerAt l 88 ∷ []) ≡ hs
 unfolding headersNumbers
-headers-back (a ∷ b ∷ []) l rest n t e =
+headers-back hs l rest =
+    by-length 2 (λ m. All TypedHeader m → drop 63 l ≡ headersNumbers m ++ rest → (headerAt l 63 ∷ headerAt l 88 ∷ []) ≡ m)
+    (λ a b t e.
     let f = e ∙ append-assoc (headerNumbers a) (headerNumbers b ++ []) rest in
-    let m = headerNumbers b ++ ([] ++ rest) in
-    let g : drop 25 (drop 63 l) ≡ m = past (headerNumbers a) ((headerNumbers b ++ []) ++ rest) (drop 63 l) 25 f (header-length a (t .0 .nine)) ∙ append-assoc (headerNumbers b) [] rest in
-    ap₂ (λ (x y : Header). x ∷ y ∷ []) (header-there l 63 a _ (t .0) f) (header-there l 88 b _ (t .1 .0) (sym (drop-drop 25 63 l) ∙ g))
-headers-back [] l rest n t e = absurd (omega arith)
-headers-back (a ∷ []) l rest n t e = absurd (omega arith)
-headers-back (a ∷ b ∷ c ∷ hs) l rest n t e = absurd (omega arith)
+    let g : drop 25 (drop 63 l) ≡ headerNumbers b ++ rest = past (headerNumbers a) ((headerNumbers b ++ []) ++ rest) (drop 63 l) 25 f (header-length a (t .0 .nine)) ∙ append-assoc (headerNumbers b) [] rest in
+    ap₂ (λ (x y : Header). x ∷ y ∷ []) (header-there l 63 a _ (t .0) f) (header-there l 88 b _ (t .1 .0) (sym (drop-drop 25 63 l) ∙ g))) hs
 
 begins-itself : (l rest : List ℕ) → beginsWith l (l ++ rest) ≡ true
 unfolding beginsWith
