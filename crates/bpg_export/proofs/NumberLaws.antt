@@ -1,6 +1,6 @@
 -- A record's list in parts, lists compared, and a list's entries. Assumes nothing.
 use mathlib.Core.Path.{_≡_, refl, sym, ap, ap₂, _∙_}
-use mathlib.Core.Bool.{Bool, true, false, _&&_}
+use mathlib.Core.Bool.{Bool, true, false, _&&_, and-false, and-assoc}
 use mathlib.Core.List.{List, [], _∷_, _++_, map, append-assoc, append-nil}
 use Prim.Native.Nat.{ℕ, zero, suc, _+_, _*_, _≤_, _<_}
 use native.Mathlib.Numerals.{add-one}
@@ -23,21 +23,21 @@ pub flag-number : (t : Bool) → boolByte t ≡ bit t
 flag-number true = refl
 flag-number false = refl
 
--- ---- the nine range flags
+-- ---- lists of a known length
 
--- what holds of any nine holds of a list of nine
-pub by-nine : (P : List Bool → Type 0) → ((a b c d e f g h i : Bool) → P (a ∷ b ∷ c ∷ d ∷ e ∷ f ∷ g ∷ h ∷ i ∷ [])) → (l : List Bool) → length l ≡ 9 → P l
-by-nine P p (a ∷ b ∷ c ∷ d ∷ e ∷ f ∷ g ∷ h ∷ i ∷ []) n = p a b c d e f g h i
-by-nine P p [] n = absurd (omega arith)
-by-nine P p (a ∷ []) n = absurd (omega arith)
-by-nine P p (a ∷ b ∷ []) n = absurd (omega arith)
-by-nine P p (a ∷ b ∷ c ∷ []) n = absurd (omega arith)
-by-nine P p (a ∷ b ∷ c ∷ d ∷ []) n = absurd (omega arith)
-by-nine P p (a ∷ b ∷ c ∷ d ∷ e ∷ []) n = absurd (omega arith)
-by-nine P p (a ∷ b ∷ c ∷ d ∷ e ∷ f ∷ []) n = absurd (omega arith)
-by-nine P p (a ∷ b ∷ c ∷ d ∷ e ∷ f ∷ g ∷ []) n = absurd (omega arith)
-by-nine P p (a ∷ b ∷ c ∷ d ∷ e ∷ f ∷ g ∷ h ∷ []) n = absurd (omega arith)
-by-nine P p (a ∷ b ∷ c ∷ d ∷ e ∷ f ∷ g ∷ h ∷ i ∷ j ∷ l) n = absurd (omega arith)
+-- what holds of any n elements, one after the other
+abbrev pub OfAny : {A : Type 0} → ℕ → (List A → Type 0) → Type 0
+OfAny zero P = P []
+OfAny {A} (suc n) P = (x : A) → OfAny n (λ l. P (x ∷ l))
+
+-- holds of a list of n
+pub by-length : {A : Type 0} (n : ℕ) (P : List A → Type 0) → OfAny n P → (l : List A) → length l ≡ n → P l
+by-length zero P p [] e = p
+by-length zero P p (x ∷ l) e = absurd (omega arith)
+by-length (suc n) P p [] e = absurd (omega arith)
+by-length (suc n) P p (x ∷ l) e = by-length n (λ m. P (x ∷ m)) (p x) l (omega arith)
+
+-- ---- the nine range flags
 
 -- each element as the code reads it
 abbrev nineOf : List Bool → List ℕ
@@ -46,9 +46,7 @@ nineOf l =
     ∷ boolByte (getD l 5 false) ∷ boolByte (getD l 6 false) ∷ boolByte (getD l 7 false) ∷ boolByte (getD l 8 false) ∷ []
 
 pub nine-flags : (l : List Bool) → length l ≡ 9 → nineOf l ≡ map bit l
-nine-flags =
-    by-nine (λ l. nineOf l ≡ map bit l) λ a b c d e f g h i z.
-    flag-number a z ∷ flag-number b z ∷ flag-number c z ∷ flag-number d z ∷ flag-number e z ∷ flag-number f z ∷ flag-number g z ∷ flag-number h z ∷ flag-number i z ∷ []
+nine-flags = by-length 9 (λ l. nineOf l ≡ map bit l) (λ a b c d e f g h i. simp flag-number)
 
 pub header-length : (h : Header) → length (h .«range_flags») ≡ 9 → length (headerNumbers h) ≡ 25
 unfolding headerNumbers
@@ -75,10 +73,7 @@ entries-next es k d h = rw (add-one, take-suc es k d) (entries-append (take k es
 
 pub two-headers : (hs : List Header) (d : Header) → length hs ≡ 2 → headersNumbers hs ≡ headerNumbers (getD hs 0 d) ++ headerNumbers (getD hs 1 d)
 unfolding headersNumbers
-two-headers (a ∷ b ∷ []) d n = ap (λ (l : List ℕ). headerNumbers a ++ l) (append-nil (headerNumbers b))
-two-headers [] d n = absurd (omega arith)
-two-headers (a ∷ []) d n = absurd (omega arith)
-two-headers (a ∷ b ∷ c ∷ l) d n = absurd (omega arith)
+two-headers hs d = by-length 2 (λ l. headersNumbers l ≡ headerNumbers (getD l 0 d) ++ headerNumbers (getD l 1 d)) (λ a b. simp append-nil) hs
 
 -- ---- parts written one after the other are one
 
@@ -141,19 +136,16 @@ module _ (out : List ℕ) (r : Record) (d : Header) (long : 115 ≤ length out) 
   record-written o1 o2 o3 o4 o5 o6 m n p1 p2 p3 p4 p5 p6 =
       let a = headNumbers r in
       let b = a ++ entriesNumbers (r .entries) in
-      let nb : length b ≡ 60 = omega (arith, length-append a (entriesNumbers (r .entries))) in
       let c = b ++ loopNumbers r in
-      let nc : length c ≡ 63 = omega (arith, length-append b (loopNumbers r)) in
       let e = c ++ alpha in
-      let ne : length e ≡ 88 = omega (arith, length-append c alpha) in
       let f = e ++ color in
-      let nf : length f ≡ 113 = omega (arith, length-append e color) in
+      let ends : (length b ≡ 60) × (length c ≡ 63) × (length e ≡ 88) × (length f ≡ 113) = simp length-append (omega arith) in
       let q2 = written-next out 0 12 a (entriesNumbers (r .entries)) o1 o2 refl (omega arith) p1 p2 in
       let q3 = written-next out 0 60 b (loopNumbers r) o2 o3 (omega arith) (omega arith) q2 p3 in
       let q4 = written-next out 0 63 c alpha o3 o4 (omega arith) (omega arith) q3 p4 in
       let q5 = written-next out 0 88 e color o4 o5 (omega arith) (omega arith) q4 p5 in
       let q6 = written-next out 0 113 f (rangeNumbers (r .«data»)) o5 o6 (omega arith) (omega arith) q5 p6 in
-      (q6 ∙ ap (written out 0) parts-are, ap length (sym parts-are) ∙ length-append f (rangeNumbers (r .«data»)) ∙ omega (arith, nf))
+      (q6 ∙ ap (written out 0) parts-are, ap length (sym parts-are) ∙ length-append f (rangeNumbers (r .«data»)) ∙ omega arith)
 
 -- ---- lists compared
 
@@ -162,10 +154,6 @@ unfolding beginsWith
 begins-short [] l h = absurd (omega arith)
 begins-short (x ∷ a) [] h = refl
 begins-short (x ∷ a) (y ∷ l) h = rw (begins-short a l (omega arith)) (and-false (eqb x y))
-  where
-    and-false : (t : Bool) → (t && false) ≡ false
-    and-false true = refl
-    and-false false = refl
 
 module _ (a l : List ℕ) (k : ℕ) where
   pub begins-end : (s : Bool) → length a ≤ k → (s && beginsWith (drop k a) (drop k l)) ≡ s
@@ -177,10 +165,6 @@ module _ (a l : List ℕ) (k : ℕ) where
       → (s && beginsWith (drop k a) (drop k l)) ≡ ((s && eqb (getD a k 0) (getD l k 0)) && beginsWith (drop (k + 1) a) (drop (k + 1) l))
   unfolding beginsWith
   begins-next s h j = rw (add-one, drop-cons a k 0, drop-cons l k 0) (sym (and-assoc s (eqb (getD a k 0) (getD l k 0)) (beginsWith (drop (suc k) a) (drop (suc k) l))))
-    where
-      and-assoc : (x y z : Bool) → ((x && y) && z) ≡ (x && (y && z))
-      and-assoc true y z = refl
-      and-assoc false y z = refl
 
 -- ---- the entries of a list
 

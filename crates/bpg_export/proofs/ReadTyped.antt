@@ -1,11 +1,10 @@
 -- A record that was read is one that its types hold. Assumes nothing.
 use mathlib.Core.Path.{_≡_, refl, sym, ap, subst}
-use mathlib.Core.Bool.{Bool, true, false, _||_}
-use mathlib.Core.List.{List, [], _∷_, _++_, map}
-use Prim.Native.Nat.{ℕ, _+_, _-_, _^_, _≤_, _<_}
+use mathlib.Core.Bool.{Bool, true, false}
+use mathlib.Core.List.{List, [], _∷_, map}
+use Prim.Native.Nat.{ℕ, _+_, _≤_}
 use native.Mathlib.Omega.{arith}
-use lib.ListN.{length, take, drop, replicate, length-append, length-replicate, take-append-drop}
-use Rattle.bpg_codec.specs.Bits.{bit}
+use lib.ListN.{length, take, drop, length-append, length-replicate, take-append-drop}
 use Rattle.bpg_codec.specs.Lawful.{All, Byte}
 use Rattle.bpg_codec.specs.Outcome.{Outcome, ok, error}
 use Rattle.bpg_format.specs.Limits.{maxEntries, maxFile}
@@ -16,8 +15,10 @@ use Rattle.bpg_format.specs.Content.{Extension, Loop, Content, hasAlpha, bitDep
 use Rattle.bpg_format.specs.Syntax.{fileOf}
 use Rattle.bpg_format.specs.Rules.{isLoop, hasLoop, ExtensionRules, HeaderRules, Rules}
 use Rattle.bpg_format.specs.Read.{readContent}
-use Rattle.bpg_format.specs.Records.{entriesAt, blockStart, extensionOf, usedEntries, contentOf, answerOf, readFile, recordOf as contentRecord}
+use Rattle.bpg_format.specs.Records.{blockStart, extensionOf, usedEntries, contentOf, answerOf, readFile, recordOf as contentRecord}
 use Rattle.bpg_format.specs.Write.{Writable}
+use Rattle.bpg_codec.proofs.Tokens.{all-append}
+use Rattle.bpg_format.proofs.RuleLaws.{bool-apart, by-tag}
 use Rattle.bpg_format.proofs.RecordLaws.{entries-length, content-record}
 use Rattle.bpg_format.proofs.Reading.{read-is}
 use Rattle.bpg_format.proofs.Writing.{record-writable}
@@ -30,70 +31,35 @@ module _ (depth : ℕ) (shallow : depth ≤ 14) (h : Header) (r : HeaderRules de
   pcm-typed : (t : Bool) → h .«pcm_enabled_flag» ≡ t
       → OfBits 32 (h .«log2_min_pcm_luma_coding_block_size_minus3» ∷ h .«log2_diff_max_min_pcm_luma_coding_block_size» ∷ [])
       × OfBits 8 (h .«pcm_sample_bit_depth_luma_minus1» ∷ h .«pcm_sample_bit_depth_chroma_minus1» ∷ [])
-  pcm-typed true e =
-      let p = r .hevc .pcm e in
-      ((omega (arith, r .fields .min-pcm e), (omega (arith, r .fields .diff-pcm e), tt)), (omega (arith, p .luma-depth), (omega (arith, p .chroma-depth), tt)))
-  pcm-typed false e =
-      let p = r .fields .no-pcm e in
-      ((omega (arith, p .min-size), (omega (arith, p .max-size), tt)), (omega (arith, p .luma-depth), (omega (arith, p .chroma-depth), tt)))
+  pcm-typed true e = let p = r .hevc .pcm e in omega (arith, r .fields .min-pcm e, r .fields .diff-pcm e)
+  pcm-typed false e = let p = r .fields .no-pcm e in omega arith
 
   header-typed : TypedHeader h
-  header-typed =
-      let p = pcm-typed (h .«pcm_enabled_flag») refl in
-      let f = r .fields in
-      record {
-        blocks = (omega (arith, f .min-cb), (omega (arith, f .diff-cb), (omega (arith, f .min-tb), (omega (arith, f .diff-tb), (omega (arith, f .depth), tt)))));
-        pcm-blocks = p .0;
-        depths = p .1;
-        seven-bits = omega (arith, r .forbidden .seven-bits);
-        nine = f .nine;
-      }
-
-small : 0 < 2 ^ 8
-small = omega arith
+  header-typed = let p = pcm-typed (h .«pcm_enabled_flag») refl in omega arith
 
 zero-typed : TypedHeader zeroHeader
-zero-typed =
-    let z : 0 < 2 ^ 32 = omega arith in
-    record {
-      blocks = (z, (z, (z, (z, (z, tt)))));
-      pcm-blocks = (z, (z, tt));
-      depths = (small, (small, tt));
-      seven-bits = small;
-      nine = refl;
-    }
+zero-typed = omega arith
 
 -- ---- the loop numbers
 
 abbrev LoopTyped : Loop → Type 0
 LoopTyped p = OfBits 16 (p .count ∷ p .periodNum ∷ p .periodDen ∷ [])
 
-first-or-later : (p : Loop) (e : Extension) (es : List Extension) → ExtensionRules p e → (hasLoop es ≡ true → LoopTyped p) → (t : Bool) → isLoop e ≡ t
-    → (t || hasLoop es) ≡ true → LoopTyped p
-first-or-later p e es r later true w h = let d = r .loop w in (d .1 .count, (d .1 .num, (d .1 .den, tt)))
-first-or-later p e es r later false w h = later h
-
 loop-typed : (p : Loop) (es : List Extension) → All (ExtensionRules p) es → hasLoop es ≡ true → LoopTyped p
-loop-typed p [] a h = absurd (omega (arith, ap bit h))
-loop-typed p (e ∷ es) a h = first-or-later p e es (a .0) (loop-typed p es (a .1)) (isLoop e) refl h
+loop-typed p [] a h = bool-apart h refl
+loop-typed p (e ∷ es) a h = by-tag (isLoop e) (λ w. let d = a .0 .loop w in omega arith) (λ w. loop-typed p es (a .1) (rw w at h))
 
 -- ---- the entries
-
-all-append : {A : Type 0} (P : A → Type 0) (a b : List A) → All P a → All P b → All P (a ++ b)
-all-append P [] b p q = q
-all-append P (x ∷ a) b p q = (p .0, all-append P a b (p .1) q)
 
 module _ (file : List ℕ) (short : length file ≤ maxFile) (p : Loop) where
   used-typed : (es : List Entry) → All (ExtensionRules p) (map (extensionOf file) es) → All (λ (e : Entry). e .payload .start + e .payload .length ≤ length file) es
       → All (λ (e : Entry). OfBits 32 (entryNumbers e)) es
   used-typed [] a b = tt
-  used-typed (e ∷ es) a b = ((a .0 .tag, (omega (arith, b .0), (omega (arith, b .0), tt))), used-typed es (a .1) (b .1))
+  used-typed (e ∷ es) a b = (omega arith, used-typed es (a .1) (b .1))
 
 unused-typed : (es : List Entry) → All (λ (e : Entry). e ≡ zeroEntry) es → All (λ (e : Entry). OfBits 32 (entryNumbers e)) es
 unused-typed [] a = tt
-unused-typed (e ∷ es) a =
-    let z : 0 < 2 ^ 32 = omega arith in
-    (subst (λ (x : Entry). OfBits 32 (entryNumbers x)) (sym (a .0)) (z, (z, (z, tt))), unused-typed es (a .1))
+unused-typed (e ∷ es) a = (rw (a .0) (omega arith), unused-typed es (a .1))
 
 -- ---- the record
 
@@ -116,55 +82,25 @@ module _ (c : Content) (r : Rules c) where
 
   sixteen : length (contentRecord c .entries) ≡ maxEntries
   unfolding contentRecord
-  sixteen =
-      let es = entriesAt (blockStart c) (c .extensions) in
-      omega (
-        arith,
-        length-append es (replicate (maxEntries - length es) zeroEntry),
-        length-replicate (maxEntries - length es) zeroEntry,
-        entries-length (blockStart c) (c .extensions),
-        r .entry-limit,
-      )
+  sixteen = simp (length-append, length-replicate) (omega (arith, entries-length (blockStart c) (c .extensions), r .entry-limit))
 
-  loop-small : (t : Bool) → hasLoop (c .extensions) ≡ t → LoopTyped (c .loop)
-  loop-small true e = loop-typed (c .loop) (c .extensions) (r .entries) e
-  loop-small false e =
-      let z : 0 < 2 ^ 16 = omega arith in
-      subst LoopTyped (sym (r .no-loop e)) (z, (z, (z, tt)))
+  loop-small : LoopTyped (c .loop)
+  loop-small = by-tag (hasLoop (c .extensions)) (loop-typed (c .loop) (c .extensions) (r .entries)) (λ e. rw (r .no-loop e) (omega arith))
 
-  alpha-typed : (t : Bool) → hasAlpha (c .flags) ≡ t → TypedHeader (c .alphaHeader)
-  alpha-typed true e = header-typed (bitDepth (c .flags)) (omega (arith, r .bit-depth)) (c .alphaHeader) (r .alpha-header e)
-  alpha-typed false e = subst TypedHeader (sym (r .no-alpha e)) zero-typed
+  alpha-typed : TypedHeader (c .alphaHeader)
+  alpha-typed =
+      by-tag (hasAlpha (c .flags)) (λ e. header-typed (bitDepth (c .flags)) (omega arith) (c .alphaHeader) (r .alpha-header e))
+      (λ e. rw (r .no-alpha e) zero-typed)
 
   content-typed : TypedRecord (contentRecord c)
   unfolding contentRecord
   content-typed =
-      record {
-        flags = (omega (arith, r .pixel-format), (omega (arith, r .bit-depth), (omega (arith, r .color-space), tt)));
-        size = (r .width, (r .height, (omega (arith, r .entry-limit), tt)));
-        entries = entries-typed;
-        sixteen = sixteen;
-        loop = loop-small (hasLoop (c .extensions)) refl;
-        headers = (alpha-typed (hasAlpha (c .flags)) refl, (header-typed (bitDepth (c .flags)) (omega (arith, r .bit-depth)) (c .colorHeader) (r .color-header), tt));
-        two = refl;
-        data-range = (omega (arith, writable .data-range, r .size), (omega (arith, writable .data-range, r .size), tt));
-      }
+      let color = header-typed (bitDepth (c .flags)) (omega arith) (c .colorHeader) (r .color-header) in
+      let range = writable .data-range in
+      search (entries-typed, sixteen, loop-small, alpha-typed, arith)
 
 refused-typed : TypedRecord zeroRecord
-refused-typed =
-    let z : 0 < 2 ^ 32 = omega arith in
-    let s : 0 < 2 ^ 16 = omega arith in
-    let e : OfBits 32 (entryNumbers zeroEntry) = (z, (z, (z, tt))) in
-    record {
-      flags = (small, (small, (small, tt)));
-      size = (z, (z, (z, tt)));
-      entries = (e, (e, (e, (e, (e, (e, (e, (e, (e, (e, (e, (e, (e, (e, (e, (e, tt))))))))))))))));
-      sixteen = refl;
-      loop = (s, (s, (s, tt)));
-      headers = (zero-typed, (zero-typed, tt));
-      two = refl;
-      data-range = (z, (z, tt));
-    }
+refused-typed = search (zero-typed, arith) depth 20
 
 pub read-typed : (f : List ℕ) → All Byte f → TypedRecord (readFile f .«record»)
 unfolding readFile

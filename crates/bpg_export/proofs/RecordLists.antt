@@ -2,7 +2,8 @@
 use mathlib.Core.Path.{_≡_, refl, sym, ap, ap₂, _∙_}
 use mathlib.Core.Bool.{Bool, true, false}
 use mathlib.Core.List.{List, [], _∷_, _++_, map, append-assoc}
-use Prim.Native.Nat.{ℕ, zero, suc, _+_, _*_, _%_, _^_, _<_}
+use Prim.Native.Nat.{ℕ, zero, suc, _+_, _*_, _%_}
+use native.Mathlib.Nat.{add-zero, add-assoc, mod-eq-of-lt}
 use native.Mathlib.Omega.{arith}
 use lib.Dec.{eqb}
 use lib.ListN.{length, drop, getD, length-append}
@@ -14,20 +15,9 @@ use Rattle.bpg_format.specs.declared.record.Entry.{Entry}
 use Rattle.bpg_format.specs.declared.record.Header.{Header}
 use Rattle.bpg_format.specs.declared.record.Record.{Record}
 use Rattle.bpg_format.specs.Zero.{range}
-use Rattle.bpg_export.specs.Numbers.{headNumbers, rangeNumbers, entryNumbers, entriesNumbers, loopNumbers, headerNumbers, headersNumbers, numbersOf, flagAt, u8At, u16At, u32At, rangeAt, entriesAt, rangeFlagsAt, headerAt, recordOf, beginsWith, numbersFit}
+use Rattle.bpg_export.specs.Numbers.{headNumbers, rangeNumbers, entryNumbers, entriesNumbers, loopNumbers, headerNumbers, headersNumbers, numbersOf, entriesAt, rangeFlagsAt, headerAt, recordOf, beginsWith, numbersFit}
 use Rattle.bpg_export.specs.Typing.{OfBits, TypedHeader, TypedRecord}
-use Rattle.bpg_export.proofs.NumberLaws.{by-nine, entries-length, header-length}
-
--- ---- a number that fits its field
-
-word : (n : ℕ) → n < 2 ^ 32 → n % 2 ^ 32 ≡ n
-word n h = omega arith
-
-short : (n : ℕ) → n < 2 ^ 16 → n % 2 ^ 16 ≡ n
-short n h = omega arith
-
-byte : (n : ℕ) → n < 2 ^ 8 → n % 2 ^ 8 ≡ n
-byte n h = omega arith
+use Rattle.bpg_export.proofs.NumberLaws.{by-length, entries-length, header-length}
 
 flag : (t : Bool) → eqb (bit t % 2) 1 ≡ t
 flag true = refl
@@ -36,62 +26,21 @@ flag false = refl
 -- ---- what stands at n is what stands at the start of the rest
 
 module _ (l : List ℕ) (n : ℕ) where
-  nth : (k i : ℕ) → k ≡ n + i → getD l k 0 ≡ getD (drop n l) i 0
-  nth k i e = ap (λ (j : ℕ). getD l j 0) e ∙ sym (getD-drop n l i 0)
+  number-from : (m : List ℕ) (i : ℕ) → drop n l ≡ m → getD l (n + i) 0 ≡ getD m i 0
+  number-from m i e = sym (getD-drop n l i 0) ∙ ap (λ (x : List ℕ). getD x i 0) e
 
-  flag-from : (k i : ℕ) → k ≡ n + i → flagAt l k ≡ flagAt (drop n l) i
-  flag-from k i e = ap (λ (x : ℕ). eqb (x % 2) 1) (nth k i e)
-
-  byte-from : (k i : ℕ) → k ≡ n + i → u8At l k ≡ u8At (drop n l) i
-  byte-from k i e = ap (λ (x : ℕ). x % 2 ^ 8) (nth k i e)
-
-  short-from : (k i : ℕ) → k ≡ n + i → u16At l k ≡ u16At (drop n l) i
-  short-from k i e = ap (λ (x : ℕ). x % 2 ^ 16) (nth k i e)
-
-  word-from : (k i : ℕ) → k ≡ n + i → u32At l k ≡ u32At (drop n l) i
-  word-from k i e = ap (λ (x : ℕ). x % 2 ^ 32) (nth k i e)
-
-  range-from : (k i : ℕ) → k ≡ n + i → rangeAt l k ≡ rangeAt (drop n l) i
-  range-from k i e = ap₂ range (word-from k i e) (word-from (k + 1) (i + 1) (omega arith))
-
-  flags-from : (k i : ℕ) → k ≡ n + i → rangeFlagsAt l k ≡ rangeFlagsAt (drop n l) i
+  flags-from : rangeFlagsAt l n ≡ rangeFlagsAt (drop n l) 0
   unfolding rangeFlagsAt
-  flags-from k i e =
-      λ z.
-      flag-from k i e z ∷ flag-from (k + 1) (i + 1) (omega arith) z ∷ flag-from (k + 2) (i + 2) (omega arith) z ∷ flag-from (k + 3) (i + 3) (omega arith) z
-      ∷ flag-from (k + 4) (i + 4) (omega arith) z ∷ flag-from (k + 5) (i + 5) (omega arith) z ∷ flag-from (k + 6) (i + 6) (omega arith) z
-      ∷ flag-from (k + 7) (i + 7) (omega arith) z ∷ flag-from (k + 8) (i + 8) (omega arith) z ∷ []
+  flags-from = simp (getD-drop, add-zero)
 
   header-from : headerAt l n ≡ headerAt (drop n l) 0
-  unfolding headerAt
-  header-from =
-      λ z.
-      record {
-        «log2_min_luma_coding_block_size_minus3» = word-from n 0 (omega arith) z;
-        «log2_diff_max_min_luma_coding_block_size» = word-from (n + 1) 1 (omega arith) z;
-        «log2_min_transform_block_size_minus2» = word-from (n + 2) 2 (omega arith) z;
-        «log2_diff_max_min_transform_block_size» = word-from (n + 3) 3 (omega arith) z;
-        «max_transform_hierarchy_depth_intra» = word-from (n + 4) 4 (omega arith) z;
-        «sample_adaptive_offset_enabled_flag» = flag-from (n + 5) 5 (omega arith) z;
-        «pcm_enabled_flag» = flag-from (n + 6) 6 (omega arith) z;
-        «pcm_sample_bit_depth_luma_minus1» = byte-from (n + 7) 7 (omega arith) z;
-        «pcm_sample_bit_depth_chroma_minus1» = byte-from (n + 8) 8 (omega arith) z;
-        «log2_min_pcm_luma_coding_block_size_minus3» = word-from (n + 9) 9 (omega arith) z;
-        «log2_diff_max_min_pcm_luma_coding_block_size» = word-from (n + 10) 10 (omega arith) z;
-        «pcm_loop_filter_disabled_flag» = flag-from (n + 11) 11 (omega arith) z;
-        «strong_intra_smoothing_enabled_flag» = flag-from (n + 12) 12 (omega arith) z;
-        «sps_extension_present_flag» = flag-from (n + 13) 13 (omega arith) z;
-        «sps_range_extension_flag» = flag-from (n + 14) 14 (omega arith) z;
-        «sps_extension_7bits» = byte-from (n + 15) 15 (omega arith) z;
-        «range_flags» = flags-from (n + 16) 16 (omega arith) z;
-      }
+  unfolding headerAt rangeFlagsAt
+  header-from = simp (getD-drop, add-assoc, add-zero)
 
-entries-from : (l : List ℕ) (n k i m : ℕ) → k ≡ n + i → entriesAt l k m ≡ entriesAt (drop n l) i m
+entries-from : (l : List ℕ) (n i m : ℕ) → entriesAt l (n + i) m ≡ entriesAt (drop n l) i m
 unfolding entriesAt
-entries-from l n k i zero e = refl
-entries-from l n k i (suc m) e =
-    ap₂ (λ (x : Entry) (es : List Entry). x ∷ es) (λ z. record { tag = word-from l n k i e z; payload = range-from l n (k + 1) (i + 1) (omega arith) z })
-    (entries-from l n (k + 3) (i + 3) m (omega arith))
+entries-from l n i zero = refl
+entries-from l n i (suc m) = let ih = entries-from l n (i + 3) m in simp (getD-drop, add-assoc, ih)
 
 -- ---- the parts of a list give the parts of the record
 
@@ -99,39 +48,21 @@ entries-back : (es : List Entry) (rest : List ℕ) → All (λ (e : Entry). OfBi
 unfolding entriesAt entriesNumbers
 entries-back [] rest a = refl
 entries-back (e ∷ es) rest a =
-    let l = entriesNumbers (e ∷ es) ++ rest in
-    ap₂ (λ (x : Entry) (xs : List Entry). x ∷ xs)
-    (λ z. record { tag = word (e .tag) (a .0 .0) z; payload = range (word (e .payload .start) (a .0 .1 .0) z) (word (e .payload .length) (a .0 .1 .1 .0) z) })
-    (entries-from l 3 3 0 (length es) refl ∙ entries-back es rest (a .1))
+    let tail = entries-from (entriesNumbers (e ∷ es) ++ rest) 3 0 (length es) ∙ entries-back es rest (a .1) in
+    search (mod-eq-of-lt, tail)
 
 flags-back : (l : List Bool) (rest : List ℕ) → length l ≡ 9 → rangeFlagsAt (map bit l ++ rest) 0 ≡ l
 unfolding rangeFlagsAt
-flags-back l rest =
-    by-nine (λ m. rangeFlagsAt (map bit m ++ rest) 0 ≡ m) (λ a b c d e f g h i z. flag a z ∷ flag b z ∷ flag c z ∷ flag d z ∷ flag e z ∷ flag f z ∷ flag g z ∷ flag h z ∷ flag i z ∷ []) l
+flags-back l rest = by-length 9 (λ m. rangeFlagsAt (map bit m ++ rest) 0 ≡ m) (λ a b c d e f g h i. simp flag) l
 
 header-back : (h : Header) (rest : List ℕ) → TypedHeader h → headerAt (headerNumbers h ++ rest) 0 ≡ h
 unfolding headerAt headerNumbers
 header-back h rest t =
-    λ z.
-    record {
-      «log2_min_luma_coding_block_size_minus3» = word (h .«log2_min_luma_coding_block_size_minus3») (t .blocks .0) z;
-      «log2_diff_max_min_luma_coding_block_size» = word (h .«log2_diff_max_min_luma_coding_block_size») (t .blocks .1 .0) z;
-      «log2_min_transform_block_size_minus2» = word (h .«log2_min_transform_block_size_minus2») (t .blocks .1 .1 .0) z;
-      «log2_diff_max_min_transform_block_size» = word (h .«log2_diff_max_min_transform_block_size») (t .blocks .1 .1 .1 .0) z;
-      «max_transform_hierarchy_depth_intra» = word (h .«max_transform_hierarchy_depth_intra») (t .blocks .1 .1 .1 .1 .0) z;
-      «sample_adaptive_offset_enabled_flag» = flag (h .«sample_adaptive_offset_enabled_flag») z;
-      «pcm_enabled_flag» = flag (h .«pcm_enabled_flag») z;
-      «pcm_sample_bit_depth_luma_minus1» = byte (h .«pcm_sample_bit_depth_luma_minus1») (t .depths .0) z;
-      «pcm_sample_bit_depth_chroma_minus1» = byte (h .«pcm_sample_bit_depth_chroma_minus1») (t .depths .1 .0) z;
-      «log2_min_pcm_luma_coding_block_size_minus3» = word (h .«log2_min_pcm_luma_coding_block_size_minus3») (t .pcm-blocks .0) z;
-      «log2_diff_max_min_pcm_luma_coding_block_size» = word (h .«log2_diff_max_min_pcm_luma_coding_block_size») (t .pcm-blocks .1 .0) z;
-      «pcm_loop_filter_disabled_flag» = flag (h .«pcm_loop_filter_disabled_flag») z;
-      «strong_intra_smoothing_enabled_flag» = flag (h .«strong_intra_smoothing_enabled_flag») z;
-      «sps_extension_present_flag» = flag (h .«sps_extension_present_flag») z;
-      «sps_range_extension_flag» = flag (h .«sps_range_extension_flag») z;
-      «sps_extension_7bits» = byte (h .«sps_extension_7bits») (t .seven-bits) z;
-      «range_flags» = (flags-from (headerNumbers h ++ rest) 16 16 0 refl ∙ flags-back (h .«range_flags») rest (t .nine)) z;
-    }
+    let flags = flags-from (headerNumbers h ++ rest) 16 ∙ flags-back (h .«range_flags») rest (t .nine) in
+    search (mod-eq-of-lt, flag, flags)
+
+header-there : (l : List ℕ) (n : ℕ) (h : Header) (rest : List ℕ) → TypedHeader h → drop n l ≡ headerNumbers h ++ rest → headerAt l n ≡ h
+header-there l n h rest t e = header-from l n ∙ ap (λ (x : List ℕ). headerAt x 0) e ∙ header-back h rest t
 
 headers-length : (hs : List Header) → All TypedHeader hs → length (headersNumbers hs) ≡ 25 * length hs
 unfolding headersNumbers
@@ -144,15 +75,12 @@ past a b l n e k = ap₂ (λ (m : ℕ) (x : List ℕ). drop m x) (sym k) e ∙ d
 headers-back : (hs : List Header) (l rest : List ℕ) → length hs ≡ 2 → All TypedHeader hs → drop 63 l ≡ headersNumbers hs ++ rest
     → (headerAt l 63 ∷ headerAt l 88 ∷ []) ≡ hs
 unfolding headersNumbers
-headers-back (a ∷ b ∷ []) l rest n t e =
+headers-back hs l rest =
+    by-length 2 (λ m. All TypedHeader m → drop 63 l ≡ headersNumbers m ++ rest → (headerAt l 63 ∷ headerAt l 88 ∷ []) ≡ m)
+    (λ a b t e.
     let f = e ∙ append-assoc (headerNumbers a) (headerNumbers b ++ []) rest in
-    let m = headerNumbers b ++ ([] ++ rest) in
-    let g : drop 25 (drop 63 l) ≡ m = past (headerNumbers a) ((headerNumbers b ++ []) ++ rest) (drop 63 l) 25 f (header-length a (t .0 .nine)) ∙ append-assoc (headerNumbers b) [] rest in
-    ap₂ (λ (x y : Header). x ∷ y ∷ []) (header-from l 63 ∙ ap (λ (x : List ℕ). headerAt x 0) f ∙ header-back a _ (t .0))
-    (header-from l 88 ∙ ap (λ (x : List ℕ). headerAt x 0) (sym (drop-drop 25 63 l) ∙ g) ∙ header-back b _ (t .1 .0))
-headers-back [] l rest n t e = absurd (omega arith)
-headers-back (a ∷ []) l rest n t e = absurd (omega arith)
-headers-back (a ∷ b ∷ c ∷ hs) l rest n t e = absurd (omega arith)
+    let g : drop 25 (drop 63 l) ≡ headerNumbers b ++ rest = past (headerNumbers a) ((headerNumbers b ++ []) ++ rest) (drop 63 l) 25 f (header-length a (t .0 .nine)) ∙ append-assoc (headerNumbers b) [] rest in
+    ap₂ (λ (x y : Header). x ∷ y ∷ []) (header-there l 63 a _ (t .0) f) (header-there l 88 b _ (t .1 .0) (sym (drop-drop 25 63 l) ∙ g))) hs
 
 begins-itself : (l rest : List ℕ) → beginsWith l (l ++ rest) ≡ true
 unfolding beginsWith
@@ -185,7 +113,7 @@ module _ (r : Record) (rest : List ℕ) (t : TypedRecord r) where
   unfolding numbersOf
   entries-are =
       let tail = loopNumbers r ++ (headersNumbers (r .headers) ++ rangeNumbers (r .«data»)) in
-      entries-from all 12 12 0 16 refl
+      entries-from all 12 0 16
       ∙ ap (λ (l : List ℕ). entriesAt l 0 16) (append-assoc (entriesNumbers (r .entries)) tail rest)
       ∙ ap (entriesAt (entriesNumbers (r .entries) ++ (tail ++ rest)) 0) (sym (t .sixteen))
       ∙ entries-back (r .entries) (tail ++ rest) (t .entries)
@@ -193,29 +121,10 @@ module _ (r : Record) (rest : List ℕ) (t : TypedRecord r) where
   pub record-back : recordOf all ≡ r
   unfolding recordOf numbersOf
   record-back =
-      λ z.
-      record {
-        «pixel_format» = byte (r .«pixel_format») (t .flags .0) z;
-        «alpha1_flag» = flag (r .«alpha1_flag») z;
-        «bit_depth_minus_8» = byte (r .«bit_depth_minus_8») (t .flags .1 .0) z;
-        «color_space» = byte (r .«color_space») (t .flags .1 .1 .0) z;
-        «extension_present_flag» = flag (r .«extension_present_flag») z;
-        «alpha2_flag» = flag (r .«alpha2_flag») z;
-        «limited_range_flag» = flag (r .«limited_range_flag») z;
-        «animation_flag» = flag (r .«animation_flag») z;
-        «picture_width» = word (r .«picture_width») (t .size .0) z;
-        «picture_height» = word (r .«picture_height») (t .size .1 .0) z;
-        «explicit_length» = flag (r .«explicit_length») z;
-        «entry_count» = word (r .«entry_count») (t .size .1 .1 .0) z;
-        entries = entries-are z;
-        «loop_count» = (short-from all 60 60 0 refl ∙ ap (λ (l : List ℕ). u16At l 0) past-entries ∙ short (r .«loop_count») (t .loop .0)) z;
-        «frame_period_num» = (short-from all 60 61 1 refl ∙ ap (λ (l : List ℕ). u16At l 1) past-entries ∙ short (r .«frame_period_num») (t .loop .1 .0)) z;
-        «frame_period_den» = (short-from all 60 62 2 refl ∙ ap (λ (l : List ℕ). u16At l 2) past-entries ∙ short (r .«frame_period_den») (t .loop .1 .1 .0)) z;
-        headers = headers-back (r .headers) all (rangeNumbers (r .«data») ++ rest) (t .two) (t .headers) past-loop z;
-        «data» =
-            (range-from all 113 113 0 refl ∙ ap (λ (l : List ℕ). rangeAt l 0) past-headers
-            ∙ ap₂ range (word (r .«data» .start) (t .data-range .0)) (word (r .«data» .length) (t .data-range .1 .0))) z;
-      }
+      let loop = number-from all 60 (loopNumbers r ++ (headersNumbers (r .headers) ++ (rangeNumbers (r .«data») ++ rest))) in
+      let headers = headers-back (r .headers) all (rangeNumbers (r .«data») ++ rest) (t .two) (t .headers) past-loop in
+      let range = number-from all 113 (rangeNumbers (r .«data») ++ rest) in
+      search (mod-eq-of-lt, flag, entries-are, loop 0 past-entries, loop 1 past-entries, loop 2 past-entries, headers, range 0 past-headers, range 1 past-headers)
 
   -- and so the list fits
   pub numbers-fit : numbersFit all ≡ true
@@ -223,20 +132,4 @@ module _ (r : Record) (rest : List ℕ) (t : TypedRecord r) where
 
   pub numbers-length : length (numbersOf r) ≡ 115
   unfolding numbersOf
-  numbers-length =
-      let a = headNumbers r in
-      let b = entriesNumbers (r .entries) in
-      let c = loopNumbers r in
-      let d = headersNumbers (r .headers) in
-      let e = rangeNumbers (r .«data») in
-      omega (
-        arith,
-        length-append a (b ++ (c ++ (d ++ e))),
-        length-append b (c ++ (d ++ e)),
-        length-append c (d ++ e),
-        length-append d e,
-        entries-length (r .entries),
-        t .sixteen,
-        headers-length (r .headers) (t .headers),
-        t .two,
-      )
+  numbers-length = simp length-append (omega (arith, entries-length (r .entries), t .sixteen, headers-length (r .headers) (t .headers), t .two))

@@ -6,16 +6,14 @@ use mathlib.Core.List.{List, [], _∷_, map}
 use mathlib.Core.Logic.{_↔_}
 use Prim.Native.Nat.{ℕ, _≤_}
 use lib.ListN.{length}
-use Rattle.bpg_codec.specs.Select.{select}
 use Rattle.bpg_codec.specs.Lawful.{All}
 use Rattle.bpg_codec.proofs.Select.{select-true, select-false}
 use Rattle.bpg_format.specs.Content.{Extension, Loop, Content}
 use Rattle.bpg_format.specs.Syntax.{fileOf}
 use Rattle.bpg_format.specs.Rules.{LoopPayload, isLoop, ExtensionRules, hasLoop, OneLoop, Rules}
 use Rattle.bpg_format.specs.FileCodec.{loopNumbers}
-use Rattle.bpg_format.specs.Pictures.{Picture, Choices, pictureEntry, pictureOf, entryWith, withChoices, canonicalChoices, canonicalContent, canonicalBytes, dummyFrom, dummyOf, choicesOf}
-use Rattle.bpg_format.proofs.FileLaws.{loopNumbers-lawful}
-use Rattle.bpg_format.proofs.RuleLaws.{bool-apart, by-tag, numbersOf, numbers-full}
+use Rattle.bpg_format.specs.Pictures.{Picture, pictureEntry, pictureOf, entryWith, withChoices, canonicalChoices, canonicalContent, canonicalBytes, dummyFrom, dummyOf, choicesOf}
+use Rattle.bpg_format.proofs.RuleLaws.{bool-apart, by-tag, loop-decodes}
 use Rattle.bpg_format.proofs.Reading.{content-unique}
 use Rattle.bpg_format.proofs.CanonicalLaws.{same-picture, shorter, canonical-rules}
 
@@ -42,22 +40,8 @@ minimal c d s e = subst (λ (x : Content). length (fileOf x) ≤ length (fileOf 
 
 -- ---- picture and choices
 
-pub choices-keep : (c : Content) (ch : Choices) → pictureOf (withChoices (pictureOf c) ch) ≡ pictureOf c
-unfolding pictureOf withChoices
-choices-keep c ch = rw (entries-keep (c .loop) (ch .dummy) (c .extensions))
-  where
-    payload-keep : (p : Loop) (d : List ℕ) (e : Extension) → select (isLoop e) [] (select (isLoop e) (Rattle.bpg_format.specs.Pictures.loopBytes p d) (select (isLoop e) [] (e .payload))) ≡ select (isLoop e) [] (e .payload)
-    payload-keep p d e =
-        by-tag (isLoop e) (λ l. select-true _ _ l ∙ sym (select-true _ _ l)) (λ l. select-false _ _ l ∙ select-false _ _ l)
-
-    entries-keep : (p : Loop) (d : List ℕ) (es : List Extension) → map pictureEntry (map (entryWith p d) (map pictureEntry es)) ≡ map pictureEntry es
-    entries-keep p d [] = refl
-    entries-keep p d (e ∷ es) = ap₂ _∷_ (ap {B = Extension} (λ (l : List ℕ). record { tag = e .tag; payload = l }) (payload-keep p d e)) (entries-keep p d es)
-
 dummy-in : (l : List ℕ) (p : Loop) (d : List ℕ) → LoopPayload l p d → dummyFrom (loopNumbers .decode 0 0 l) ≡ d
-dummy-in l p d r =
-    let n = numbers-full l p d r in
-    ap dummyFrom (ap (loopNumbers .decode 0 0) (n .1) ∙ loopNumbers-lawful .decodes (numbersOf p d) (n .0) 0 0)
+dummy-in l p d r = ap dummyFrom (loop-decodes l p d r)
 
 dummy-head : (e : Extension) (es : List Extension) → isLoop e ≡ true → dummyOf (e ∷ es) ≡ dummyFrom (loopNumbers .decode 0 0 (e .payload))
 unfolding dummyOf

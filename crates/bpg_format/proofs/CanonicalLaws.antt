@@ -1,25 +1,28 @@
 -- The canonical form: it keeps the rules and the picture, and is not longer. Assumes nothing.
 use mathlib.Core.Path.{_≡_, refl, sym, ap, ap₂, _∙_}
 use mathlib.Core.Bool.{Bool, true, false, not, _||_}
-use mathlib.Core.List.{List, [], _∷_, map, cons≢nil}
+use mathlib.Core.List.{List, [], _∷_, _++_, map, cons≢nil}
 use Prim.Native.Nat.{ℕ, _+_, _≤_}
 use native.Mathlib.Omega.{arith}
-use lib.Dec.{T}
+use borrow.Author.Tests.{not-false}
 use lib.ListN.{length, replicate, length-append, length-map}
 use Rattle.bpg_codec.specs.Select.{select}
 use Rattle.bpg_codec.specs.Lawful.{All, Byte}
-use Rattle.bpg_codec.specs.Bits.{zeros, allZero, padded}
+use Rattle.bpg_codec.specs.Bits.{allZero, padded}
 use Rattle.bpg_codec.proofs.Select.{select-true, select-false}
 use Rattle.bpg_codec.proofs.Tokens.{all-append}
 use Rattle.bpg_codec.proofs.Bits.{length-bits}
-use Rattle.bpg_codec.proofs.Packed.{length-padded, zeros-allZero}
+use Rattle.bpg_codec.proofs.Packed.{length-padded}
 use Rattle.bpg_numbers.specs.Ue7.{ue7Bytes}
 use Rattle.bpg_numbers.proofs.Ue7Laws.{size-grows, bytes-ue7}
 use Rattle.bpg_format.specs.declared.record.Header.{Header}
-use Rattle.bpg_format.specs.Content.{isEmpty, Extension, Loop, Content, hasAlpha, bitDepth}
+use Rattle.bpg_format.specs.Limits.{maxFile}
+use Rattle.bpg_format.specs.Zero.{zeroHeader}
+use Rattle.bpg_format.specs.Content.{isEmpty, Extension, Loop, Content, hasAlpha}
 use Rattle.bpg_format.specs.Syntax.{blockBytes, extensionPart, spsExtensionBits, headerBits, headerBytes, bodyBytes, dataLength, fileOf}
-use Rattle.bpg_format.specs.Rules.{FieldRules, HeaderRules, LoopPayload, isLoop, ExtensionRules, hasLoop, OneLoop, Rules}
-use Rattle.bpg_format.specs.Pictures.{pictureHeader, pictureEntry, pictureOf, headerWith, needsRange, loopBytes, entryWith, withChoices, canonicalContent}
+use Rattle.bpg_format.specs.Rules.{NoPcm, PcmRules, FieldRules, HeaderRules, LoopPayload, isLoop, ExtensionRules, hasLoop, OneLoop, noLoop, Rules}
+use Rattle.bpg_format.specs.Pictures.{Choices, canonicalChoices, pictureHeader, pictureEntry, pictureOf, headerWith, needsRange, loopBytes, entryWith, withChoices, canonicalContent}
+use Rattle.bpg_format.proofs.HeaderRuleLaws.{nine-zeros}
 use Rattle.bpg_format.proofs.RuleLaws.{bool-apart, by-tag, file-size, body-size}
 
 -- ---- headers
@@ -28,57 +31,20 @@ abbrev canonical : Header → Header
 canonical h = headerWith (needsRange (pictureHeader h)) (needsRange (pictureHeader h)) (pictureHeader h)
 
 all-zero-nine : (l : List Bool) → length l ≡ 9 → not (allZero l) ≡ false → l ≡ replicate 9 false
-all-zero-nine l n e = zeros-allZero l (by (allZero l) e) ∙ ap zeros n
-  where
-    by : (b : Bool) → not b ≡ false → T b
-    by true e = tt
-    by false e = bool-apart refl e
+all-zero-nine l n e = nine-zeros l n (rw (not-false (allZero l) e) tt)
 
 nine-zero : (l : List Bool) → l ≡ replicate 9 false → not (allZero l) ≡ false
 nine-zero l e = rw e
 
+-- the rules do not speak of the two flags that the canonical form sets anew
+no-pcm-same : (h : Header) → NoPcm h → NoPcm (canonical h)
+no-pcm-same h n = search
+
+pcm-same : (depth : ℕ) (h : Header) → PcmRules depth h → PcmRules depth (canonical h)
+pcm-same depth h n = search
+
 header-rules : (depth : ℕ) (h : Header) → HeaderRules depth h → HeaderRules depth (canonical h)
-header-rules depth h r =
-    let f = r .fields in
-    record {
-      fields =
-          record {
-            min-cb = f .min-cb;
-            diff-cb = f .diff-cb;
-            min-tb = f .min-tb;
-            diff-tb = f .diff-tb;
-            depth = f .depth;
-            min-pcm = f .min-pcm;
-            diff-pcm = f .diff-pcm;
-            no-pcm = λ e. let n = f .no-pcm e in record {
-              luma-depth = n .luma-depth;
-              chroma-depth = n .chroma-depth;
-              min-size = n .min-size;
-              max-size = n .max-size;
-              loop-filter = n .loop-filter;
-            };
-            no-extension = λ e. record { range-flag = e; seven-bits = r .forbidden .seven-bits };
-            nine = f .nine;
-            no-range = all-zero-nine (h .«range_flags») (f .nine);
-          };
-      forbidden =
-          record {
-            seven-bits = r .forbidden .seven-bits;
-            explicit-rdpcm = r .forbidden .explicit-rdpcm;
-            extended-precision = r .forbidden .extended-precision;
-            high-precision-offsets = r .forbidden .high-precision-offsets;
-            cabac-bypass-alignment = r .forbidden .cabac-bypass-alignment;
-          };
-      hevc =
-          record {
-            ctb-least = r .hevc .ctb-least;
-            ctb-most = r .hevc .ctb-most;
-            min-tb = r .hevc .min-tb;
-            max-tb = r .hevc .max-tb;
-            hierarchy-depth = r .hevc .hierarchy-depth;
-            pcm = λ e. let n = r .hevc .pcm e in record { luma-depth = n .luma-depth; chroma-depth = n .chroma-depth; min-pcm = n .min-pcm; max-pcm = n .max-pcm };
-          };
-    }
+header-rules depth h r = search (no-pcm-same, r .fields .no-pcm, pcm-same, r .hevc .pcm, all-zero-nine)
 
 -- the bits of the SPS extension: none where the nine flags are zero, and else both parts were there before
 abbrev extensionSize : Header → ℕ
@@ -103,13 +69,15 @@ bits-shorter : (h : Header) → FieldRules h → length (headerBits (canonical h
 unfolding headerBits
 bits-shorter h f = let s = extension-shorter h f in simp length-append (omega arith)
 
+-- a list after its length
+counted-shorter : (l m : List ℕ) → length l ≤ length m → length (ue7Bytes (length l) ++ l) ≤ length (ue7Bytes (length m) ++ m)
+counted-shorter l m h = let g = size-grows (length l) (length m) h in simp length-append (omega arith)
+
 header-shorter : (h : Header) → FieldRules h → length (headerBytes (canonical h)) ≤ length (headerBytes h)
 unfolding headerBytes
 header-shorter h f =
     let s = bits-shorter h f in
-    let p : length (padded (headerBits (canonical h))) ≤ length (padded (headerBits h)) = rw (length-padded (headerBits (canonical h)), length-padded (headerBits h)) (omega arith) in
-    rw (length-append (ue7Bytes (length (padded (headerBits (canonical h))))), length-append (ue7Bytes (length (padded (headerBits h)))))
-    (omega (arith, size-grows _ _ p))
+    counted-shorter (padded (headerBits (canonical h))) (padded (headerBits h)) (rw (length-padded (headerBits (canonical h)), length-padded (headerBits h)) (omega arith))
 
 -- ---- entries
 
@@ -124,21 +92,10 @@ module _ (p : Loop) where
   entry-other e l = select-false _ _ l ∙ select-false _ _ l
 
   loop-payload : (l dummy : List ℕ) → LoopPayload l p dummy → LoopPayload (loopBytes p []) p []
-  loop-payload l dummy r =
-      record {
-        is = refl;
-        count = r .count;
-        num = r .num;
-        num-not-zero = r .num-not-zero;
-        den = r .den;
-        den-not-zero = r .den-not-zero;
-        bytes = tt;
-      }
+  loop-payload l dummy r = search
 
   loop-bytes : All Byte (loopBytes p [])
-  loop-bytes =
-      all-append Byte (ue7Bytes (p .count)) _ (bytes-ue7 (p .count))
-      (all-append Byte (ue7Bytes (p .periodNum)) _ (bytes-ue7 (p .periodNum)) (all-append Byte (ue7Bytes (p .periodDen)) [] (bytes-ue7 (p .periodDen)) tt))
+  loop-bytes = search (all-append, bytes-ue7)
 
   entry-rules : (e : Extension) → ExtensionRules p e → ExtensionRules p (canonicalEntry p e)
   entry-rules e r =
@@ -180,25 +137,28 @@ module _ (p : Loop) where
   entries-shorter : (es : List Extension) → All (ExtensionRules p) es → length (blockBytes (canonicalEntries es)) ≤ length (blockBytes es)
   entries-shorter [] r = omega arith
   entries-shorter (e ∷ es) r =
-      let s = entry-shorter e (r .0) in
-      let n = size-grows (length (canonicalEntry p e .payload)) (length (e .payload)) s in
+      let n = counted-shorter (canonicalEntry p e .payload) (e .payload) (entry-shorter e (r .0)) in
       let ih = entries-shorter es (r .1) in
-      simp length-append (omega arith)
-
-  payload-same : (e : Extension) → pictureEntry (canonicalEntry p e) .payload ≡ pictureEntry e .payload
-  payload-same e =
-      by-tag (isLoop e) (λ l. select-true _ _ l ∙ sym (select-true _ _ l)) (λ l. select-false _ _ l ∙ entry-other e l ∙ sym (select-false _ _ l))
-
-  entries-same : (es : List Extension) → map pictureEntry (canonicalEntries es) ≡ map pictureEntry es
-  entries-same [] = refl
-  entries-same (e ∷ es) =
-      ap₂ _∷_ (ap {B = Extension} (λ (l : List ℕ). record { tag = e .tag; payload = l }) (payload-same e)) (entries-same es)
+      simp length-append (omega (arith, simp length-append at n))
 
 -- ---- the content
 
+-- the choices do not change the picture
+pub choices-keep : (c : Content) (ch : Choices) → pictureOf (withChoices (pictureOf c) ch) ≡ pictureOf c
+unfolding pictureOf withChoices
+choices-keep c ch = rw (entries-keep (c .loop) (ch .dummy) (c .extensions))
+  where
+    payload-keep : (p : Loop) (d : List ℕ) (e : Extension) → select (isLoop e) [] (select (isLoop e) (loopBytes p d) (select (isLoop e) [] (e .payload))) ≡ select (isLoop e) [] (e .payload)
+    payload-keep p d e =
+        by-tag (isLoop e) (λ l. select-true _ _ l ∙ sym (select-true _ _ l)) (λ l. select-false _ _ l ∙ select-false _ _ l)
+
+    entries-keep : (p : Loop) (d : List ℕ) (es : List Extension) → map pictureEntry (map (entryWith p d) (map pictureEntry es)) ≡ map pictureEntry es
+    entries-keep p d [] = refl
+    entries-keep p d (e ∷ es) = ap₂ _∷_ (ap {B = Extension} (λ (l : List ℕ). record { tag = e .tag; payload = l }) (payload-keep p d e)) (entries-keep p d es)
+
 pub same-picture : (c : Content) → pictureOf (canonicalContent c) ≡ pictureOf c
-unfolding pictureOf withChoices canonicalContent
-same-picture c = rw (entries-same (c .loop) (c .extensions))
+unfolding canonicalContent
+same-picture c = choices-keep c (canonicalChoices (pictureOf c))
 
 -- with no header where there is no alpha plane
 select-shorter : (b : Bool) (l m : List ℕ) → (b ≡ true → length l ≤ length m) → length (select b l []) ≤ length (select b m [])
@@ -222,10 +182,7 @@ part-shorter : (b : Bool) (p : Loop) (es : List Extension) → (b ≡ false → 
     → length (extensionPart (not (isEmpty (map pictureEntry es))) (canonicalEntries p es)) ≤ length (extensionPart b es)
 unfolding extensionPart select
 part-shorter b p [] n r = omega arith
-part-shorter true p (e ∷ es) n r =
-    let s = entries-shorter p (e ∷ es) r in
-    let g = size-grows (length (blockBytes (canonicalEntries p (e ∷ es)))) (length (blockBytes (e ∷ es))) s in
-    rw (length-append (ue7Bytes (length (blockBytes (canonicalEntries p (e ∷ es))))), length-append (ue7Bytes (length (blockBytes (e ∷ es))))) (omega arith)
+part-shorter true p (e ∷ es) n r = counted-shorter (blockBytes (canonicalEntries p (e ∷ es))) (blockBytes (e ∷ es)) (entries-shorter p (e ∷ es) r)
 part-shorter false p (e ∷ es) n r = absurd (cons≢nil (n refl))
 
 open-length : (c : Content) → dataLength (canonicalContent c) ≡ 0
@@ -252,26 +209,9 @@ no-entries p (x ∷ es) e = bool-apart refl e
 pub canonical-rules : (c : Content) → Rules c → Rules (canonicalContent c)
 unfolding pictureOf withChoices canonicalContent
 canonical-rules c r =
-    let depth = bitDepth (c .flags) in
+    let limit : length (canonicalEntries (c .loop) (c .extensions)) ≤ 16 = simp length-map (r .entry-limit) in
     let loops = entries-loop (c .loop) (c .extensions) in
-    record {
-      pixel-format = r .pixel-format;
-      bit-depth = r .bit-depth;
-      color-space = r .color-space;
-      gray = r .gray;
-      width = r .width;
-      width-not-zero = r .width-not-zero;
-      height = r .height;
-      height-not-zero = r .height-not-zero;
-      absent-block = no-entries (c .loop) (c .extensions);
-      entry-limit = omega (arith, r .entry-limit, length-map (map pictureEntry (c .extensions)) (entryWith (c .loop) []), length-map (c .extensions) pictureEntry);
-      entries = entries-rules (c .loop) (c .extensions) (r .entries);
-      one-loop = entries-one (c .loop) (c .extensions) (r .one-loop);
-      no-loop = λ h. r .no-loop (sym loops ∙ h);
-      animated = λ a. loops ∙ r .animated a;
-      no-alpha = λ a. ap canonical (r .no-alpha a);
-      alpha-header = λ a. header-rules depth (c .alphaHeader) (r .alpha-header a);
-      color-header = header-rules depth (c .colorHeader) (r .color-header);
-      data-bytes = r .data-bytes;
-      size = omega (arith, shorter c r, r .size);
-    }
+    let no-loop : hasLoop (canonicalEntries (c .loop) (c .extensions)) ≡ false → c .loop ≡ noLoop = λ h. r .no-loop (sym loops ∙ h) in
+    let no-alpha : hasAlpha (c .flags) ≡ false → canonical (c .alphaHeader) ≡ zeroHeader = λ a. ap canonical (r .no-alpha a) in
+    let size : length (fileOf (canonicalContent c)) ≤ maxFile = omega (arith, shorter c r, r .size) in
+    search (no-entries, entries-rules, entries-one, loops, r .animated, header-rules, r .alpha-header)

@@ -11,10 +11,11 @@ use Rattle.bpg_format.specs.declared.record.Range.{Range}
 use Rattle.bpg_format.specs.declared.record.Entry.{Entry}
 use Rattle.bpg_format.specs.Zero.{range}
 use Rattle.bpg_format.specs.Content.{Extension, Content}
-use Rattle.bpg_format.specs.Syntax.{extensionBytes, blockBytes, fileOf}
+use Rattle.bpg_format.specs.Syntax.{blockBytes, fileOf}
 use Rattle.bpg_format.specs.Rules.{Rules}
 use Rattle.bpg_format.specs.Records.{entriesAt, blockStart, dataStart, recordOf, bytesIn}
 use Rattle.bpg_format.specs.Parts.{rangesOf, rangeEnd, InOrder, joined, Inside}
+use Rattle.bpg_format.proofs.RuleLaws.{entry-size}
 use Rattle.bpg_format.proofs.RecordLaws.{used-entries, beforeData, data-file, data-length}
 
 abbrev payloads : List Entry → List Range
@@ -69,9 +70,7 @@ entries-ascend [] p q e d h k l = (omega arith, k)
 entries-ascend (x ∷ es) p q e d h k l =
     let tag = ue7Bytes (x .tag) in
     let size = ue7Bytes (length (x .payload)) in
-    let n1 = length-append (extensionBytes x) (blockBytes es) in
-    let n2 = length-append tag (size ++ x .payload) in
-    let n3 = length-append size (x .payload) in
+    let n = entry-size x es in
     (omega arith, entries-ascend es (p + length tag + length size + length (x .payload)) _ e d (omega arith) k (omega arith))
 
 pub start-after : (c : Content) → blockStart c + length (blockBytes (c .extensions)) ≤ dataStart c

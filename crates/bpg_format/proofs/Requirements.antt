@@ -19,7 +19,7 @@ use Rattle.bpg_format.specs.Zero.{zeroEntry, refusedWritten}
 use Rattle.bpg_format.specs.Content.{Content}
 use Rattle.bpg_format.specs.Syntax.{fileOf}
 use Rattle.bpg_format.specs.Rules.{Rules, Accepted}
-use Rattle.bpg_format.specs.Records.{recordOf, usedEntries, contentOf, answerOf, readFile, bytesIn}
+use Rattle.bpg_format.specs.Records.{recordOf, usedEntries, contentOf, readFile, bytesIn}
 use Rattle.bpg_format.specs.Read.{readContent, ReadingStatus}
 use Rattle.bpg_format.specs.Parts.{entryOf, payloadOf, dataOf, rangesOf}
 use Rattle.bpg_format.specs.Write.{writeOutcome, writtenAnswer, writtenBuffer, writeFile, writeBuffer, WritingStatus, Typed, Writable}
@@ -41,55 +41,49 @@ refused-answer : (o : Outcome (List ℕ)) (out : List ℕ) → writtenAnswer o .
 refused-answer (ok l) out n = absurd (n refl)
 refused-answer (error s o) out n = (refl, refl)
 
-refused-at-zero : (o : Outcome (List ℕ)) → Refuses (λ s p. WritingStatus s × (p ≡ 0)) o → writtenAnswer o .status ≢ 0
-    → WritingStatus (writtenAnswer o .status) × (writtenAnswer o .offset ≡ 0)
-refused-at-zero (ok l) h n = absurd (n refl)
-refused-at-zero (error s o) h n = h s o refl
+refused-at-zero : (o : Outcome (List ℕ)) (out : List ℕ) → Refuses (λ s p. WritingStatus s × (p ≡ 0)) o → writtenAnswer o .status ≢ 0
+    → (writtenAnswer o ≡ refusedWritten (writtenAnswer o .status) 0) × WritingStatus (writtenAnswer o .status) × (writtenBuffer o out ≡ out)
+refused-at-zero (ok l) out h n = absurd (n refl)
+refused-at-zero (error s o) out h n = let z = h s o refl in (ap (refusedWritten s) (z .1), z .0, refl)
 
 written-refusal : (r : Record) (source out : List ℕ) → writeFile r source out .status ≢ 0
     → (writeFile r source out ≡ refusedWritten (writeFile r source out .status) 0) × WritingStatus (writeFile r source out .status) × (writeBuffer r source out ≡ out)
 unfolding writeFile writeBuffer
-written-refusal r source out n =
-    let o = writeOutcome (length out) r source in
-    let a = refused-answer o out n in
-    let z = refused-at-zero o (write-refuses (length out) r source) n in
-    (a .0 ∙ ap (refusedWritten (writtenAnswer o .status)) (z .1), z .0, a .1)
+written-refusal r source out n = refused-at-zero (writeOutcome (length out) r source) out (write-refuses (length out) r source) n
 
 canonical-refusal : (f out : List ℕ) → canonicalFile f out .status ≢ 0
     → (canonicalFile f out ≡ refusedWritten (canonicalFile f out .status) (canonicalFile f out .offset)) × (canonicalBuffer f out ≡ out)
 unfolding canonicalFile canonicalBuffer
 canonical-refusal f out n = refused-answer (canonicalOutcome (length out) f) out n
 
--- canonicalizing by what the file is read as
-abbrev fitted : List ℕ → Outcome Content → Outcome (List ℕ)
-fitted out o = o >>= λ c. guard (leb (length (canonicalBytes c)) (length out)) 20 0 >>= λ _. ok (canonicalBytes c)
+-- canonicalizing answers the reading's refusal, 20, or the canonical form
+canonical-cases : (f out : List ℕ) (P : Outcome (List ℕ) → Type 0) → ((s o : ℕ) → readContent f ≡ error s o → P (error s o)) → P (error 20 0)
+    → ((c : Content) → P (ok (canonicalBytes c))) → P (canonicalOutcome (length out) f)
+unfolding canonicalOutcome
+canonical-cases f out P refused small fits = by (readContent f) refl
+  where
+    sized : (c : Content) (t : Bool) → P (guard t 20 0 >>= λ _. ok (canonicalBytes c))
+    sized c true = fits c
+    sized c false = small
+
+    by : (o : Outcome Content) → readContent f ≡ o → P (o >>= λ c. guard (leb (length (canonicalBytes c)) (length out)) 20 0 >>= λ _. ok (canonicalBytes c))
+    by (ok c) e = sized c (leb (length (canonicalBytes c)) (length out))
+    by (error s o) e = refused s o e
 
 canonical-number : (f out : List ℕ) → canonicalFile f out .status ≢ 0 → canonicalFile f out .status ≢ 20
     → (canonicalFile f out .status ≡ readFile f .status) × (canonicalFile f out .offset ≡ readFile f .offset) × ReadingStatus (canonicalFile f out .status)
-unfolding canonicalFile canonicalOutcome readFile
-canonical-number f out n m = by (readContent f) refl n m
-  where
-    sized : (c : Content) (t : Bool) → writtenAnswer (guard t 20 0 >>= λ _. ok (canonicalBytes c)) .status ≢ 0
-        → writtenAnswer (guard t 20 0 >>= λ _. ok (canonicalBytes c)) .status ≢ 20 → ⊥
-    sized c true n m = n refl
-    sized c false n m = m refl
-
-    by : (o : Outcome Content) → readContent f ≡ o → writtenAnswer (fitted out o) .status ≢ 0 → writtenAnswer (fitted out o) .status ≢ 20
-        → (writtenAnswer (fitted out o) .status ≡ answerOf o .status) × (writtenAnswer (fitted out o) .offset ≡ answerOf o .offset) × ReadingStatus (writtenAnswer (fitted out o) .status)
-    by (ok c) e n m = absurd (sized c (leb (length (canonicalBytes c)) (length out)) n m)
-    by (error s o) e n m = (refl, refl, content-refuses f s o e)
+unfolding canonicalFile readFile
+canonical-number f out =
+    canonical-cases f out
+    (λ o. writtenAnswer o .status ≢ 0 → writtenAnswer o .status ≢ 20
+    → (writtenAnswer o .status ≡ readFile f .status) × (writtenAnswer o .offset ≡ readFile f .offset) × ReadingStatus (writtenAnswer o .status))
+    (λ s o e n m. rw e (refl, refl, content-refuses f s o e)) (λ n m. absurd (m refl)) (λ c n m. absurd (n refl))
 
 canonical-small : (f out : List ℕ) → canonicalFile f out .status ≡ 20 → canonicalFile f out .offset ≡ 0
-unfolding canonicalFile canonicalOutcome
-canonical-small f out h = by (readContent f) refl h
-  where
-    sized : (c : Content) (t : Bool) → writtenAnswer (guard t 20 0 >>= λ _. ok (canonicalBytes c)) .offset ≡ 0
-    sized c true = refl
-    sized c false = refl
-
-    by : (o : Outcome Content) → readContent f ≡ o → writtenAnswer (fitted out o) .status ≡ 20 → writtenAnswer (fitted out o) .offset ≡ 0
-    by (ok c) e k = sized c (leb (length (canonicalBytes c)) (length out))
-    by (error s o) e k = absurd (omega (arith, k, content-refuses f s o e .1))
+unfolding canonicalFile
+canonical-small f out =
+    canonical-cases f out (λ o. writtenAnswer o .status ≡ 20 → writtenAnswer o .offset ≡ 0)
+    (λ s o e k. absurd (omega (arith, k, content-refuses f s o e .1))) (λ _. refl) (λ c _. refl)
 
 no-payload : (f : List ℕ) (k : ℕ) → readFile f .«record» .«entry_count» ≤ k → payloadOf f k ≡ []
 unfolding payloadOf entryOf
@@ -182,76 +176,70 @@ ranges =
 
 -- ---- 3
 
--- canonicalizing an accepted file into a buffer that holds the canonical form
-canonicalizes : (c : Content) → Rules c → (f out : List ℕ) → f ≡ fileOf c → length (canonicalBytes c) ≤ length out
-    → canonicalOutcome (length out) f ≡ ok (canonicalBytes c)
-unfolding canonicalOutcome
-canonicalizes c r f out e h = rw (e, reads c r, le-leb _ _ h)
-
 record Done (f out : List ℕ) (c : Content) : Type 0 where
   status : canonicalFile f out .status ≡ 0
   count-is : count f out ≡ length (canonicalBytes c)
   bytes-are : bytes f out ≡ canonicalBytes c
 
-done : (c : Content) → Rules c → (f out : List ℕ) → f ≡ fileOf c → length (canonicalBytes c) ≤ length out → Done f out c
-unfolding canonicalFile canonicalBuffer
-done c r f out e h =
-    let s = success (canonicalOutcome (length out) f) (canonicalBytes c) out (canonicalizes c r f out e h) in
+-- canonicalizing an accepted file into a buffer that holds the canonical form
+done : (f out : List ℕ) (a : Accepted f) → length (canonicalBytes (a .0)) ≤ length out → Done f out (a .0)
+unfolding canonicalOutcome canonicalFile canonicalBuffer
+done f out a h =
+    let e : canonicalOutcome (length out) f ≡ ok (canonicalBytes (a .0)) = rw (a .2, reads (a .0) (a .1), le-leb _ _ h) in
+    let s = success (canonicalOutcome (length out) f) (canonicalBytes (a .0)) out e in
     record { status = s .0; count-is = s .1; bytes-are = s .2 }
 
-shows : (c : Content) → Rules c → (f : List ℕ) → f ≡ fileOf c → Shows f (pictureOf c)
-shows c r f e = record { content = c; rules = r; is = e; picture = refl }
-
 -- the picture of a file is that of its content
-picture-of : (c : Content) → Rules c → (f : List ℕ) → f ≡ fileOf c → (p : Picture) → Shows f p → pictureOf c ≡ p
-picture-of c r f e p s = ap pictureOf (content-unique c (s .content) r (s .rules) (sym e ∙ s .is)) ∙ s .picture
+picture-of : (f : List ℕ) (a : Accepted f) (p : Picture) → Shows f p → pictureOf (a .0) ≡ p
+picture-of f a p s = ap pictureOf (content-unique (a .0) (s .content) (a .1) (s .rules) (sym (a .2) ∙ s .is)) ∙ s .picture
 
-canonical-is : (c : Content) → canonicalBytes c ≡ fileOf (canonicalContent c)
-unfolding canonicalBytes
-canonical-is c = refl
+same-pictures : (f g : List ℕ) (a : Accepted f) (b : Accepted g) → SamePicture f g ↔ (pictureOf (a .0) ≡ pictureOf (b .0))
+same-pictures f g a b = (
+  λ p. picture-of f a (p .0) (p .1) ∙ sym (picture-of g b (p .0) (p .2)),
+  λ e. (
+    pictureOf (b .0),
+    record { content = a .0; rules = a .1; is = a .2; picture = e },
+    record { content = b .0; rules = b .1; is = b .2; picture = refl },
+  ),
+)
 
-module _ (f g out1 out2 : List ℕ) (c d : Content) (r : Rules c) (s : Rules d) (i : f ≡ fileOf c) (j : g ≡ fileOf d) (x : Done f out1 c) (y : Done g out2 d) where
-  equal : ((count f out1 ≡ count g out2) × (bytes f out1 ≡ bytes g out2)) ↔ SamePicture f g
-  equal =
-      let eq = equal-exactly c d r s in (
-        λ e. (pictureOf c, shows c r f i, record { content = d; rules = s; is = j; picture = sym (eq .0 (sym (x .bytes-are) ∙ e .1 ∙ y .bytes-are)) }),
-        λ p.
-            let same = eq .1 (picture-of c r f i (p .0) (p .1) ∙ sym (picture-of d s g j (p .0) (p .2))) in
-            (x .count-is ∙ ap length same ∙ sym (y .count-is), x .bytes-are ∙ same ∙ sym (y .bytes-are)),
+module _ (f out : List ℕ) (a : Accepted f) (x : Done f out (a .0)) where
+  equal : (g out2 : List ℕ) (b : Accepted g) → Done g out2 (b .0) → ((count f out ≡ count g out2) × (bytes f out ≡ bytes g out2)) ↔ SamePicture f g
+  equal g out2 b y =
+      let eq = equal-exactly (a .0) (b .0) (a .1) (b .1) in
+      let pictures = same-pictures f g a b in (
+        λ e. pictures .1 (eq .0 (sym (x .bytes-are) ∙ e .1 ∙ y .bytes-are)),
+        λ p. let same = eq .1 (pictures .0 p) in (x .count-is ∙ ap length same ∙ sym (y .count-is), x .bytes-are ∙ same ∙ sym (y .bytes-are)),
       )
 
-module _ (f out : List ℕ) (c : Content) (r : Rules c) (i : f ≡ fileOf c) (x : Done f out c) where
-  written : bytes f out ≡ fileOf (canonicalContent c)
-  written = x .bytes-are ∙ canonical-is c
+  written : bytes f out ≡ fileOf (canonicalContent (a .0))
+  unfolding canonicalBytes
+  written = x .bytes-are
+
+  abbrev form : Accepted (bytes f out)
+  form = (canonicalContent (a .0), canonical-rules (a .0) (a .1), written)
 
   once-more : (out3 : List ℕ) → length (bytes f out) ≤ length out3
       → (canonicalFile (bytes f out) out3 .status ≡ 0) × (count (bytes f out) out3 ≡ count f out) × (bytes (bytes f out) out3 ≡ bytes f out)
   once-more out3 h =
-      let e : canonicalBytes (canonicalContent c) ≡ bytes f out = again c ∙ sym (x .bytes-are) in
-      let z = done (canonicalContent c) (canonical-rules c r) (bytes f out) out3 written (rw e h) in
-      (z .status, z .count-is ∙ ap length (again c) ∙ sym (x .count-is), z .bytes-are ∙ e)
+      let e : canonicalBytes (canonicalContent (a .0)) ≡ bytes f out = again (a .0) ∙ sym (x .bytes-are) in
+      let z = done (bytes f out) out3 form (rw e h) in
+      (z .status, z .count-is ∙ ap length (again (a .0)) ∙ sym (x .count-is), z .bytes-are ∙ e)
 
   least : (h : List ℕ) → Accepted h → SamePicture h f → count f out ≤ length h
-  least h a p =
-      let same = picture-of (a .0) (a .1) h (a .2) (p .0) (p .1) ∙ sym (picture-of c r f i (p .0) (p .2)) in
-      rw (x .count-is, a .2) (minimal c (a .0) (a .1) same)
+  least h b p = rw (x .count-is, b .2) (minimal (a .0) (b .0) (b .1) (same-pictures h f b a .0 p))
 
 pub one-form-per-picture : OneFormPerPicture
 one-form-per-picture f g out1 out2 a b h k =
-    let c = a .0 in
-    let x = done c (a .1) f out1 (a .2) h in
-    let y = done (b .0) (b .1) g out2 (b .2) k in
+    let x = done f out1 a h in
+    let y = done g out2 b k in
     record {
       first = x .status;
       second = y .status;
-      equal = equal f g out1 out2 c (b .0) (a .1) (b .1) (a .2) (b .2) x y;
-      form = λ e r i. x .bytes-are ∙ ap canonicalBytes (content-unique c e (a .1) r (sym (a .2) ∙ i));
-      is-accepted = (canonicalContent c, canonical-rules c (a .1), written f out1 c (a .1) (a .2) x);
-      same = (
-        pictureOf c,
-        record { content = canonicalContent c; rules = canonical-rules c (a .1); is = written f out1 c (a .1) (a .2) x; picture = same-picture c },
-        shows c (a .1) f (a .2),
-      );
-      again = once-more f out1 c (a .1) (a .2) x;
-      minimal = least f out1 c (a .1) (a .2) x;
+      equal = equal f out1 a x g out2 b y;
+      form = λ e r i. x .bytes-are ∙ ap canonicalBytes (content-unique (a .0) e (a .1) r (sym (a .2) ∙ i));
+      is-accepted = form f out1 a x;
+      same = same-pictures (bytes f out1) f (form f out1 a x) a .1 (same-picture (a .0));
+      again = once-more f out1 a x;
+      minimal = least f out1 a x;
     }

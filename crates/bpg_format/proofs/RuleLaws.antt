@@ -1,31 +1,31 @@
 -- A content is valid for the file's codec exactly when it keeps the rules by name. Assumes nothing.
-use mathlib.Core.Path.{_≡_, refl, sym, ap, _∙_, subst}
+use mathlib.Core.Path.{_≡_, refl, sym, ap, _∙_}
 use mathlib.Core.Bool.{Bool, true, false, not, _&&_, _||_, or-true}
-use mathlib.Core.List.{List, [], _∷_, _++_}
-use Prim.Native.Nat.{ℕ, _+_, _-_, _^_, _≤_, _<_}
+use mathlib.Core.List.{List, [], _∷_}
+use Prim.Native.Nat.{ℕ, _+_, _^_, _≤_, _<_}
 use native.Mathlib.Omega.{arith}
-use lib.Dec.{T, leb, eqb, leb→le, le→leb, eqb-refl}
+use lib.Dec.{T, leb, eqb, leb→le, le→leb}
 use lib.ListN.{length, length-append}
-use mir.Facts.{eqb-yes, eqb-no, yes-eqb, no-eqb}
-use borrow.Author.Tests.{le-leb, eq-eqb, eqb-true}
+use mir.Facts.{eqb-no, no-eqb}
+use borrow.Author.Tests.{eq-eqb, eqb-true}
 use Rattle.bpg_codec.specs.Select.{select}
-use Rattle.bpg_codec.specs.Codec.{Codec}
+use Rattle.bpg_codec.specs.Outcome.{ok}
+use Rattle.bpg_codec.specs.Codec.{Exact}
 use Rattle.bpg_codec.specs.Lawful.{All, Byte}
 use Rattle.bpg_codec.specs.Bits.{padded}
 use Rattle.bpg_codec.specs.Parts.{sequence, mapped, guarded, sized, absent}
 use Rattle.bpg_codec.specs.Regions.{thenRest, itemThenRest, mappedExact, derived, guardedRegion, rest, verbatim, ValidEach, repeated}
-use Rattle.bpg_codec.proofs.Select.{select-true, select-false, and-left, and-right, is-true, is-false}
+use Rattle.bpg_codec.proofs.Select.{select-true, select-false, is-true, is-false}
 use Rattle.bpg_numbers.specs.Ue7.{ue7Bytes}
 use Rattle.bpg_format.specs.Limits.{maxFile}
 use Rattle.bpg_format.specs.declared.record.Header.{Header}
-use Rattle.bpg_format.specs.Zero.{zeroHeader}
 use Rattle.bpg_format.specs.Content.{Flags, Extension, Loop, Content, hasAlpha, bitDepth}
-use Rattle.bpg_format.specs.Syntax.{extensionBytes, blockBytes, extensionPart, headerBits, headerBytes, bodyBytes, dataLength, fileOf}
-use Rattle.bpg_format.specs.Rules.{HeaderRules, LoopPayload, isLoop, ExtensionRules, hasLoop, OneLoop, noLoop, Rules}
-use Rattle.bpg_format.specs.FileCodec.{FlagsRules, flags, dimension, period, loopNumbers, payload, extension, seenAfter, extensions, block, loopFrom, loopIn, loopOf, header, alphaHeader, body, countsBody, parts, withLoop, lengthOf, file}
+use Rattle.bpg_format.specs.Syntax.{blockBytes, extensionPart, headerBits, headerBytes, bodyBytes, dataLength, fileOf}
+use Rattle.bpg_format.specs.Rules.{LoopPayload, isLoop, ExtensionRules, hasLoop, OneLoop, noLoop, Rules}
+use Rattle.bpg_format.specs.FileCodec.{FlagsRules, flags, dimension, period, loopNumbers, payload, extension, seenAfter, extensions, block, loopFrom, loopIn, loopOf, alphaHeader, body, countsBody, parts, withLoop, lengthOf, file}
 use Rattle.bpg_format.proofs.FileLaws.{loopNumbers-lawful}
 use Rattle.bpg_format.proofs.SyntaxLaws.{payload-encode, each-encode, length-encode, file-encode}
-use Rattle.bpg_format.proofs.HeaderRuleLaws.{unless, unless-full, header-sound, header-full}
+use Rattle.bpg_format.proofs.HeaderRuleLaws.{unless-full, passed, passes, by-flag, opt-present, opt-absent, opt-valid, header-sound, header-full}
 
 pub bool-apart {ℓ} : {P : Type ℓ} {b : Bool} → b ≡ true → b ≡ false → P
 bool-apart e f = absurd (let z : _≡_ {A = ℕ} 0 1 = cc in omega arith)
@@ -40,16 +40,7 @@ loopOfNumbers x = record { count = x .0; periodNum = x .1 .0; periodDen = x .1 .
 
 pub numbers-sound : (x : Numbers) (l : List ℕ) → loopNumbers .Valid x → l ≡ loopNumbers .encode x → LoopPayload l (loopOfNumbers x) (x .1 .1 .1)
 unfolding loopNumbers thenRest period guarded rest
-numbers-sound x l v e =
-    record {
-      is = e;
-      count = v .0;
-      num = v .1 .0 .0;
-      num-not-zero = eqb-no (v .1 .0 .1);
-      den = v .1 .1 .0 .0;
-      den-not-zero = eqb-no (v .1 .1 .0 .1);
-      bytes = v .1 .1 .1;
-    }
+numbers-sound x l v e = search eqb-no
 
 abbrev pub numbersOf : Loop → List ℕ → Numbers
 numbersOf p dummy = (p .count, (p .periodNum, (p .periodDen, dummy)))
@@ -57,39 +48,35 @@ numbersOf p dummy = (p .count, (p .periodNum, (p .periodDen, dummy)))
 pub numbers-full : (l : List ℕ) (p : Loop) (dummy : List ℕ) → LoopPayload l p dummy
     → loopNumbers .Valid (numbersOf p dummy) × (l ≡ loopNumbers .encode (numbersOf p dummy))
 unfolding loopNumbers thenRest period guarded rest
-numbers-full l p dummy r =
-    ((r .count, ((r .num, no-eqb (r .num-not-zero)), ((r .den, no-eqb (r .den-not-zero)), r .bytes))), r .is)
+numbers-full l p dummy r = search no-eqb depth 7
 
 -- the numbers that the payload holds
+pub loop-decodes : (l : List ℕ) (p : Loop) (dummy : List ℕ) → LoopPayload l p dummy → loopNumbers .decode 0 0 l ≡ ok (numbersOf p dummy)
+loop-decodes l p dummy r = let n = numbers-full l p dummy r in ap (loopNumbers .decode 0 0) (n .1) ∙ loopNumbers-lawful .decodes (numbersOf p dummy) (n .0) 0 0
+
 pub loop-in : (l : List ℕ) (p : Loop) (dummy : List ℕ) → LoopPayload l p dummy → loopIn l ≡ p
 unfolding loopIn
-loop-in l p dummy r =
-    let n = numbers-full l p dummy r in
-    ap loopFrom (ap (loopNumbers .decode 0 0) (n .1) ∙ loopNumbers-lawful .decodes (numbersOf p dummy) (n .0) 0 0)
+loop-in l p dummy r = ap loopFrom (loop-decodes l p dummy r)
 
 -- what a payload that can be read is
 abbrev Readable : List ℕ → Type 0
 Readable l = (x : Numbers) × loopNumbers .Valid x × (l ≡ loopNumbers .encode x)
 
 readable-loop : (l : List ℕ) (v : Readable l) → LoopPayload l (loopIn l) (v .0 .1 .1 .1)
-readable-loop l v =
-    let s = numbers-sound (v .0) l (v .1) (v .2) in
-    subst (λ (p : Loop). LoopPayload l p (v .0 .1 .1 .1)) (sym (loop-in l _ _ s)) s
+readable-loop l v = let s = numbers-sound (v .0) l (v .1) (v .2) in rw (loop-in l _ _ s) s
 
 payload-loop : (b : Bool) (l : List ℕ) → payload b .Valid l → b ≡ true → Readable l
-unfolding payload select verbatim
-payload-loop true l v e = v
-payload-loop false l v e = bool-apart e refl
+unfolding payload verbatim
+payload-loop b l v e = rw (select-true _ _ e) at v
 
 payload-bytes : (b : Bool) (l : List ℕ) → payload b .Valid l → All Byte l
 unfolding payload select verbatim rest
-payload-bytes true l v = subst (All Byte) (sym (v .2)) (loopNumbers-lawful .tokens (v .0) (v .1))
+payload-bytes true l v = rw (v .2) (loopNumbers-lawful .tokens (v .0) (v .1))
 payload-bytes false l v = v
 
 payload-full : (b : Bool) (l : List ℕ) → All Byte l → (b ≡ true → Readable l) → payload b .Valid l
-unfolding payload select verbatim rest
-payload-full true l h f = f refl
-payload-full false l h f = h
+unfolding payload verbatim rest
+payload-full b l h f = by-flag (λ (c : Exact ℕ (List ℕ)). c .Valid l) b (verbatim loopNumbers) (rest Byte) f (λ _. h)
 
 -- ---- an entry
 
@@ -109,13 +96,18 @@ abbrev EachValid : Bool → List Extension → Type 0
 EachValid seen es = ValidEach extension seenAfter 11 seen es
 
 pub none-seen : (seen b : Bool) → T (not (seen && b)) → seen ≡ true → b ≡ false
-none-seen true b t e = is-false b t
-none-seen false b t e = bool-apart e refl
+none-seen seen b t e = is-false b (rw e at t)
 
-pub seen-none : (seen b : Bool) → (seen ≡ true → b ≡ false) → T (not (seen && b))
-seen-none true true f = bool-apart refl (f refl)
-seen-none true false f = tt
-seen-none false b f = tt
+-- a flag and an entry, and the entries after it: no entry with tag 5 where the flag is set
+pub seen-head : (seen b c : Bool) → (seen ≡ true → (b || c) ≡ false) → T (not (seen && b))
+seen-head true true c f = bool-apart refl (f refl)
+seen-head true false c f = tt
+seen-head false b c f = tt
+
+pub seen-tail : (seen b c : Bool) → (seen ≡ true → (b || c) ≡ false) → (b ≡ true → c ≡ false) → (seen || b) ≡ true → c ≡ false
+seen-tail true true c f g e = g refl
+seen-tail true false c f g e = f refl
+seen-tail false b c f g e = g e
 
 no-loops : (seen : Bool) (es : List Extension) → EachValid seen es → seen ≡ true → hasLoop es ≡ false
 no-loops seen [] v s = refl
@@ -143,10 +135,6 @@ pub neither : (a b : Bool) → (a || b) ≡ false → (a ≡ false) × (b ≡ fa
 neither true b e = bool-apart refl e
 neither false b e = (refl, e)
 
-pub one-of {ℓ} : {P : Type ℓ} (a b : Bool) → (a || b) ≡ true → (a ≡ true → P) → (b ≡ true → P) → P
-one-of true b e f g = f refl
-one-of false b e f g = g e
-
 -- by whether an entry has tag 5
 pub by-tag {ℓ} : {P : Type ℓ} (b : Bool) → (b ≡ true → P) → (b ≡ false → P) → P
 by-tag true f g = f refl
@@ -163,7 +151,7 @@ rules-of-entry seen e p v f =
     record {
       tag = s .0;
       bytes = payload-bytes (isLoop e) (e .payload) (s .2);
-      loop = λ l. let r = payload-loop (isLoop e) (e .payload) (s .2) l in (r .0 .1 .1 .1, subst (λ (q : Loop). LoopPayload (e .payload) q (r .0 .1 .1 .1)) (sym (f l)) (readable-loop (e .payload) r));
+      loop = λ l. let r = payload-loop (isLoop e) (e .payload) (s .2) l in (r .0 .1 .1 .1, rw (f l) (readable-loop (e .payload) r));
     }
 
 entries-sound : (seen : Bool) (es : List Extension) → EachValid seen es → (p : Loop) → (hasLoop es ≡ true → p ≡ loopOf es) → All (ExtensionRules p) es
@@ -185,75 +173,45 @@ loop-full (e ∷ es) p r h =
 readable-of : (e : Extension) (p : Loop) → ExtensionRules p e → isLoop e ≡ true → Readable (e .payload)
 readable-of e p r l = let d = r .loop l in let n = numbers-full (e .payload) p (d .0) (d .1) in (numbersOf p (d .0), n .0, n .1)
 
+pub entry-size : (e : Extension) (es : List Extension)
+    → length (blockBytes (e ∷ es)) ≡ length (ue7Bytes (e .tag)) + length (ue7Bytes (length (e .payload))) + length (e .payload) + length (blockBytes es)
+entry-size e es = simp length-append (omega arith)
+
 entries-full : (seen : Bool) (es : List Extension) (p : Loop) → All (ExtensionRules p) es → OneLoop es → (seen ≡ true → hasLoop es ≡ false)
     → length (blockBytes es) < 2 ^ 32 → EachValid seen es
 entries-full seen [] p r o f s = tt
 entries-full seen (e ∷ es) p r o f s =
-    let n1 = length-append (extensionBytes e) (blockBytes es) in
-    let n2 = length-append (ue7Bytes (e .tag)) (ue7Bytes (length (e .payload)) ++ e .payload) in
-    let n3 = length-append (ue7Bytes (length (e .payload))) (e .payload) in (
-      entry-full seen e (r .0 .tag) (seen-none seen (isLoop e) (λ h. neither (isLoop e) (hasLoop es) (f h) .0))
+    let n = entry-size e es in (
+      entry-full seen e (r .0 .tag) (seen-head seen (isLoop e) (hasLoop es) f)
           (payload-full (isLoop e) (e .payload) (r .0 .bytes) (readable-of e p (r .0))) (omega arith),
-      entries-full (seenAfter seen e) es p (r .1) (o .1)
-          (λ h. one-of seen (isLoop e) h (λ g. neither (isLoop e) (hasLoop es) (f g) .1) (λ l. o .0 l)) (omega arith),
+      entries-full (seenAfter seen e) es p (r .1) (o .1) (seen-tail seen (isLoop e) (hasLoop es) f (o .0)) (omega arith),
     )
 
 -- ---- the block
 
-block-none : (present : Bool) (es : List Extension) → block present .Valid es → present ≡ false → es ≡ []
-unfolding block select absent
-block-none true es v e = bool-apart refl e
-block-none false es v e = v
-
 block-sound : (present : Bool) (es : List Extension) → block present .Valid es → EachValid false es × (length es ≤ 16)
 unfolding block select absent sized extensions repeated
 block-sound true es v = (v .0 .0, v .0 .1)
-block-sound false es v = subst (λ (x : List Extension). EachValid false x × (length x ≤ 16)) (sym v) (tt, omega arith)
+block-sound false es v = rw v (tt, omega arith)
 
 block-full : (present : Bool) (es : List Extension) → (present ≡ false → es ≡ []) → EachValid false es → length es ≤ 16
     → length (blockBytes es) < 2 ^ 32 → block present .Valid es
-unfolding block select absent sized extensions repeated
-block-full true es n v h s = ((v, h), rw (each-encode false es) s)
-block-full false es n v h s = n refl
+unfolding block sized extensions repeated
+block-full present es n v h s = opt-valid present _ [] es (λ _. ((v, h), rw (each-encode false es) s)) n
 
 -- ---- the flags
 
 pub flags-sound : (f : Flags) → FlagsRules f → (f .pixelFormat ≡ 0 → f .colorSpace ≡ 0)
-flags-sound f v e =
-    let t = and-right (leb (f .colorSpace) 4) _ (v .color-space) in
-    eqb-yes (rw (eq-eqb _ _ e) at t)
+flags-sound f v e = search (passed, eq-eqb)
 
 pub flags-full : (f : Flags) → f .pixelFormat ≤ 5 → f .bitDepthMinus8 ≤ 6 → f .colorSpace ≤ 4 → (f .pixelFormat ≡ 0 → f .colorSpace ≡ 0) → FlagsRules f
-flags-full f a b c g = record { pixel-format = le→leb _ _ a; bit-depth = le→leb _ _ b; color-space = rw (le-leb _ _ c) (unless-full (eqb (f .pixelFormat) 0) (eqb (f .colorSpace) 0) (λ e. yes-eqb (g (eqb-true _ _ e)))) }
-
--- ---- the alpha plane's header
-
-abbrev Alpha : Bool → ℕ → Codec ℕ Header
-Alpha b depth = select b (header depth) (absent zeroHeader)
-
-alpha-none : (b : Bool) (depth : ℕ) (h : Header) → Alpha b depth .Valid h → b ≡ false → h ≡ zeroHeader
-unfolding select absent
-alpha-none true depth h v e = bool-apart refl e
-alpha-none false depth h v e = v
-
-alpha-some : (b : Bool) (depth : ℕ) (h : Header) → Alpha b depth .Valid h → b ≡ true → HeaderRules depth h
-unfolding select absent
-alpha-some true depth h v e = header-sound depth h v
-alpha-some false depth h v e = bool-apart e refl
-
-alpha-full : (b : Bool) (depth : ℕ) (h : Header) → (b ≡ false → h ≡ zeroHeader) → (b ≡ true → header depth .Valid h) → Alpha b depth .Valid h
-unfolding select absent
-alpha-full true depth h n s = s refl
-alpha-full false depth h n s = n refl
+flags-full f a b c g = search (passes, eqb-true)
 
 -- ---- the sizes of the parts
 
 header-size : (h : Header) → length (padded (headerBits h)) ≤ length (headerBytes h)
 unfolding headerBytes
-header-size h = omega (arith, length-append (ue7Bytes (length (padded (headerBits h)))) (padded (headerBits h)))
-
-select-size : (b : Bool) (l : List ℕ) → b ≡ true → length (select b l []) ≡ length l
-select-size b l e = ap length (select-true l [] e)
+header-size h = simp length-append (omega arith)
 
 module _ (c : Content) where
   abbrev front : List ℕ
@@ -261,9 +219,7 @@ module _ (c : Content) where
 
   pub body-size : length (bodyBytes c) ≡ length front + length (headerBytes (c .colorHeader)) + length (c .hevcData)
   unfolding bodyBytes
-  body-size =
-      length-append front (headerBytes (c .colorHeader) ++ c .hevcData)
-      ∙ omega (arith, length-append (headerBytes (c .colorHeader)) (c .hevcData))
+  body-size = simp length-append (omega arith)
 
   pub file-size : length (fileOf c)
       ≡ 6 + length (ue7Bytes (c .width)) + length (ue7Bytes (c .height)) + length (ue7Bytes (dataLength c))
@@ -274,63 +230,32 @@ module _ (c : Content) where
   block-size : (c .flags .extensionPresent ≡ false → c .extensions ≡ []) → length (blockBytes (c .extensions)) ≤ length (fileOf c)
   unfolding extensionPart
   block-size n =
-      by-tag (c .flags .extensionPresent)
-      (λ e. omega (
-        arith,
-        file-size,
-        select-size (c .flags .extensionPresent) (ue7Bytes (length (blockBytes (c .extensions))) ++ blockBytes (c .extensions)) e,
-        length-append (ue7Bytes (length (blockBytes (c .extensions)))) (blockBytes (c .extensions)),
-      ))
-      (λ e. rw (n e) (omega arith))
+      by-tag (c .flags .extensionPresent) (λ e. rw (file-size, select-true _ _ e) (simp length-append (omega arith))) (λ e. rw (n e) (omega arith))
 
   length-size : dataLength c ≤ length (bodyBytes c)
   unfolding dataLength
-  length-size = by-tag (c .explicitLength) (λ e. omega (arith, select-true (length (bodyBytes c)) 0 e)) (λ e. omega (arith, select-false (length (bodyBytes c)) 0 e))
+  length-size = by-flag (λ (n : ℕ). n ≤ length (bodyBytes c)) (c .explicitLength) _ 0 (λ _. omega arith) (λ _. omega arith)
 
 -- ---- the file
 
 pub file-sound : (c : Content) → file .Valid c → Rules c
-unfolding file mappedExact withLoop derived parts guardedRegion thenRest itemThenRest flags dimension guarded body alphaHeader rest
+unfolding file mappedExact withLoop derived parts guardedRegion thenRest itemThenRest flags dimension guarded block body alphaHeader rest
 file-sound c v =
-    let p = v .0 in
-    let f = p .1 .0 in
-    let es = p .1 .1 .1 .1 .1 .0 in
-    let each = block-sound (c .flags .extensionPresent) (c .extensions) es in
-    let b = p .1 .1 .1 .1 .1 .1 .1 .1 in
-    record {
-      pixel-format = leb→le _ _ (f .pixel-format);
-      bit-depth = leb→le _ _ (f .bit-depth);
-      color-space = leb→le _ _ (and-left (leb (c .flags .colorSpace) 4) _ (f .color-space));
-      gray = flags-sound (c .flags) f;
-      width = p .1 .1 .0 .0;
-      width-not-zero = eqb-no (p .1 .1 .0 .1);
-      height = p .1 .1 .1 .0 .0;
-      height-not-zero = eqb-no (p .1 .1 .1 .0 .1);
-      absent-block = block-none (c .flags .extensionPresent) (c .extensions) es;
-      entry-limit = each .1;
-      entries = entries-sound false (c .extensions) (each .0) (c .loop) (λ _. v .1);
-      one-loop = one-sound false (c .extensions) (each .0);
-      no-loop = λ h. v .1 ∙ loop-none (c .extensions) h;
-      animated = λ a. is-true (hasLoop (c .extensions)) (unless (c .flags .animation) (hasLoop (c .extensions)) (p .1 .1 .1 .1 .1 .1 .0) a);
-      no-alpha = alpha-none (hasAlpha (c .flags)) (bitDepth (c .flags)) (c .alphaHeader) (b .0);
-      alpha-header = alpha-some (hasAlpha (c .flags)) (bitDepth (c .flags)) (c .alphaHeader) (b .0);
-      color-header = header-sound (bitDepth (c .flags)) (c .colorHeader) (b .1 .0);
-      data-bytes = b .1 .1;
-      size = subst (λ (l : List ℕ). length l ≤ maxFile) (file-encode c) (leb→le _ _ (p .0));
-    }
-
-either-is : (a b : Bool) → T b → T (a || b)
-either-is true b t = tt
-either-is false b t = t
+    let each = block-sound (c .flags .extensionPresent) (c .extensions) (v .0 .1 .1 .1 .1 .1 .0) in
+    let entries = entries-sound false (c .extensions) (each .0) (c .loop) (λ _. v .1) in
+    let one = one-sound false (c .extensions) (each .0) in
+    let no-loop : hasLoop (c .extensions) ≡ false → c .loop ≡ noLoop = λ h. v .1 ∙ loop-none (c .extensions) h in
+    let size : length (fileOf c) ≤ maxFile = rw (← file-encode c) (leb→le _ _ (v .0 .0)) in
+    search (passed, is-true, eqb-no, flags-sound, opt-absent, opt-present, header-sound)
 
 counts : (b : Bool) (size : ℕ) → T (countsBody (select b size 0) size)
 unfolding select
-counts true size = either-is (eqb size 0) (eqb size size) (eqb-refl size)
+counts true size = rw (eq-eqb size size refl, or-true) tt
 counts false size = tt
 
 module _ (c : Content) (r : Rules c) where
   fits : T (leb (length (file .encode c)) maxFile)
-  fits = le→leb _ _ (subst (λ (l : List ℕ). length l ≤ maxFile) (sym (file-encode c)) (r .size))
+  fits = rw (file-encode c) (le→leb _ _ (r .size))
 
   length-fits : lengthOf c < 2 ^ 32
   length-fits = omega (arith, length-encode c, length-size c, file-size c, r .size)
@@ -340,7 +265,7 @@ module _ (c : Content) (r : Rules c) where
 
   alpha-fits : hasAlpha (c .flags) ≡ true → length (padded (headerBits (c .alphaHeader))) < 2 ^ 32
   alpha-fits a =
-      omega (arith, header-size (c .alphaHeader), select-size (hasAlpha (c .flags)) (headerBytes (c .alphaHeader)) a, body-size c, file-size c, r .size)
+      omega (arith, header-size (c .alphaHeader), ap length (select-true (headerBytes (c .alphaHeader)) [] a), body-size c, file-size c, r .size)
 
   block-fits : length (blockBytes (c .extensions)) < 2 ^ 32
   block-fits = omega (arith, block-size c (r .absent-block), r .size)
@@ -356,36 +281,7 @@ module _ (c : Content) (r : Rules c) where
 pub file-full : (c : Content) → Rules c → file .Valid c
 unfolding file mappedExact withLoop derived parts guardedRegion thenRest itemThenRest flags dimension guarded body alphaHeader rest
 file-full c r =
-    let d = bitDepth (c .flags) in
-    let es = entries-full false (c .extensions) (c .loop) (r .entries) (r .one-loop) (λ e. bool-apart e refl) (block-fits c r) in (
-      (
-        fits c r,
-        (
-          flags-full (c .flags) (r .pixel-format) (r .bit-depth) (r .color-space) (r .gray),
-          (
-            (r .width, no-eqb (r .width-not-zero)),
-            (
-              (r .height, no-eqb (r .height-not-zero)),
-              (
-                length-fits c r,
-                (
-                  block-full (c .flags .extensionPresent) (c .extensions) (r .absent-block) es (r .entry-limit) (block-fits c r),
-                  (
-                    unless-full (c .flags .animation) (hasLoop (c .extensions)) (λ a. rw (r .animated a) tt),
-                    (
-                      counts (c .explicitLength) _,
-                      (
-                        alpha-full (hasAlpha (c .flags)) d (c .alphaHeader) (r .no-alpha)
-                            (λ a. header-full d (c .alphaHeader) (depth-most c r) (r .alpha-header a) (alpha-fits c r a)),
-                        (header-full d (c .colorHeader) (depth-most c r) (r .color-header) (color-fits c r), r .data-bytes),
-                      ),
-                    ),
-                  ),
-                ),
-              ),
-            ),
-          ),
-        ),
-      ),
-      loop-is c r,
-    )
+    let es = entries-full false (c .extensions) (c .loop) (r .entries) (r .one-loop) (λ e. bool-apart e refl) (block-fits c r) in
+    let block = block-full (c .flags .extensionPresent) (c .extensions) (r .absent-block) es (r .entry-limit) (block-fits c r) in
+    let loop : T (not (c .flags .animation) || hasLoop (c .extensions)) = unless-full _ _ (λ a. rw (r .animated a) tt) in
+    search (fits, flags-full, no-eqb, length-fits, counts, opt-valid, header-full, depth-most, alpha-fits, r .alpha-header, color-fits, loop-is) depth 18

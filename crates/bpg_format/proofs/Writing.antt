@@ -1,18 +1,18 @@
 -- The writer's definition answers 0 exactly for writable records, and then the bytes are the syntax's file. Assumes nothing.
-use mathlib.Core.Path.{_≡_, refl, sym, ap, _∙_, subst}
-use mathlib.Core.Bool.{Bool, true, false, not, _&&_, _||_}
-use mathlib.Core.List.{List, [], _∷_, _++_, map}
-use Prim.Native.Nat.{ℕ, _+_, _-_, _^_, _≤_, _<_}
+use mathlib.Core.Path.{_≡_, refl, sym, ap, _∙_}
+use mathlib.Core.Bool.{true, false, not, _&&_, _||_}
+use mathlib.Core.List.{List, [], _∷_, map}
+use Prim.Native.Nat.{ℕ, _+_, _^_, _≤_, _<_}
 use native.Mathlib.Omega.{arith}
-use lib.Dec.{T, leb, eqb, leb→le}
-use lib.ListN.{length, drop, replicate, length-map, length-take, length-append}
+use lib.Dec.{T, leb, leb→le}
+use lib.ListN.{length, drop, replicate, length-map, length-take}
 use lib.Seq.{drop-at}
-use mir.Facts.{eqb-yes, eqb-no, no-eqb}
+use mir.Facts.{eqb-no, no-eqb}
 use borrow.Author.Tests.{le-leb}
 use Rattle.bpg_codec.specs.Select.{select}
 use Rattle.bpg_codec.specs.Outcome.{Outcome, ok}
 use Rattle.bpg_codec.specs.Lawful.{All, Byte}
-use Rattle.bpg_codec.proofs.Select.{select-true, select-false, is-true, and-left, and-right}
+use Rattle.bpg_codec.proofs.Select.{select-true, is-true, and-both, and-left, and-right}
 use Rattle.bpg_codec.proofs.Outcome.{ok-injective, unbind, unguard}
 use Rattle.bpg_codec.proofs.Tokens.{all-take, all-drop, all-replicate}
 use Rattle.bpg_numbers.specs.Ue7.{ue7Bytes, notZero}
@@ -21,13 +21,13 @@ use Rattle.bpg_format.specs.declared.record.Entry.{Entry}
 use Rattle.bpg_format.specs.declared.record.Record.{Record}
 use Rattle.bpg_format.specs.Zero.{zeroEntry, zeroHeader}
 use Rattle.bpg_format.specs.Content.{isEmpty, Extension, Content, hasAlpha, bitDepth}
-use Rattle.bpg_format.specs.Syntax.{extensionBytes, blockBytes, fileOf}
-use Rattle.bpg_format.specs.Rules.{hasLoop, noLoop, Rules}
+use Rattle.bpg_format.specs.Syntax.{blockBytes, fileOf}
+use Rattle.bpg_format.specs.Rules.{HeaderRules, hasLoop, noLoop, Rules}
 use Rattle.bpg_format.specs.FileCodec.{colorSpaceAllowed}
 use Rattle.bpg_format.specs.Records.{entriesAt, blockStart, recordOf, extensionOf, usedEntries, contentOf}
-use Rattle.bpg_format.specs.Write.{inSource, entriesInSource, rangesInSource, isZero, zeroEntries, unusedZero, absentZero, headerZero, sameLoop, consistent, checkEntries, checkHeader, checkContent, sizedFile, writeOutcome, Typed, Writable}
-use Rattle.bpg_format.proofs.HeaderRuleLaws.{unless, unless-full}
-use Rattle.bpg_format.proofs.RuleLaws.{bool-apart, by-tag, flags-sound, flags-full}
+use Rattle.bpg_format.specs.Write.{inSource, entriesInSource, rangesInSource, isZero, zeroEntries, unusedZero, absentZero, sameLoop, consistent, checkEntries, checkHeader, checkContent, sizedFile, writeOutcome, Typed, Writable}
+use Rattle.bpg_format.proofs.HeaderRuleLaws.{unless-full, passed, by-flag}
+use Rattle.bpg_format.proofs.RuleLaws.{bool-apart, by-tag, flags-sound, flags-full, entry-size}
 use Rattle.bpg_format.proofs.RecordLaws.{used-entries, entries-length, content-record}
 use Rattle.bpg_format.proofs.RangeLaws.{start-after, data-end}
 use Rattle.bpg_format.proofs.WriteLaws.{same-loop, or-test, or-full, Absent, absent-sound, absent-full, absent-of, header-zero-sound, header-zero-full, zero-absent, header-checked, header-passes, TypedExtension, entries-checked, entries-pass}
@@ -58,33 +58,19 @@ record Consistent (c : Content) : Type 0 where
 
 consistent-sound : (c : Content) → TypedContent c → T (consistent c) → Consistent c
 unfolding consistent
-consistent-sound c h t =
-    let a : Bool = c .flags .extensionPresent || isEmpty (c .extensions) in
-    let b : Bool = hasLoop (c .extensions) || sameLoop (c .loop) noLoop in
-    let d : Bool = hasAlpha (c .flags) || headerZero (c .alphaHeader) in
-    let t1 = and-right a _ t in
-    let t2 = and-right b _ t1 in
-    let t3 = and-right d _ t2 in
-    record {
-      absent-block = λ e. empty-is _ (or-test (c .flags .extensionPresent) (isEmpty (c .extensions)) (and-left a _ t) e);
-      no-loop = λ e. same-loop (c .loop) noLoop (or-test (hasLoop (c .extensions)) (sameLoop (c .loop) noLoop) (and-left b _ t1) e);
-      no-alpha = λ e. header-zero-sound (c .alphaHeader) (or-test (hasAlpha (c .flags)) (headerZero (c .alphaHeader)) (and-left d _ t2) e) (h .alpha-nine);
-      alpha = absent-sound (c .alphaHeader) (and-left (absentZero (c .alphaHeader)) _ t3);
-      color = absent-sound (c .colorHeader) (and-right (absentZero (c .alphaHeader)) _ t3);
-    }
+consistent-sound c h t = search (passed, or-test, empty-is, same-loop, header-zero-sound, absent-sound)
 
-alpha-absent : (c : Content) → Rules c → absentZero (c .alphaHeader) ≡ true
+alpha-absent : (c : Content) → Rules c → T (absentZero (c .alphaHeader))
 alpha-absent c r =
     by-tag (hasAlpha (c .flags)) (λ a. absent-full (c .alphaHeader) (absent-of (c .alphaHeader) (r .alpha-header a .fields)))
-    (λ a. ap absentZero (r .no-alpha a) ∙ zero-absent)
+    (λ a. rw (r .no-alpha a) zero-absent)
 
 consistent-full : (c : Content) → Rules c → consistent c ≡ true
 unfolding consistent
 consistent-full c r =
-    let a : (c .flags .extensionPresent || isEmpty (c .extensions)) ≡ true = is-true _ (or-full (c .flags .extensionPresent) (isEmpty (c .extensions)) (λ e. rw (r .absent-block e) tt)) in
-    let b : (hasLoop (c .extensions) || sameLoop (c .loop) noLoop) ≡ true = is-true _ (or-full (hasLoop (c .extensions)) (sameLoop (c .loop) noLoop) (λ e. rw (r .no-loop e) tt)) in
-    let d : (hasAlpha (c .flags) || headerZero (c .alphaHeader)) ≡ true = is-true _ (or-full (hasAlpha (c .flags)) (headerZero (c .alphaHeader)) (λ e. header-zero-full (c .alphaHeader) (r .no-alpha e))) in
-    rw (a, b, d, alpha-absent c r, absent-full (c .colorHeader) (absent-of (c .colorHeader) (r .color-header .fields)))
+    let block : T (c .flags .extensionPresent || isEmpty (c .extensions)) = or-full _ _ (λ e. rw (r .absent-block e) tt) in
+    let loop : T (hasLoop (c .extensions) || sameLoop (c .loop) noLoop) = or-full _ _ (λ e. rw (r .no-loop e) tt) in
+    is-true _ (search (and-both, or-full, header-zero-full, r .no-alpha, alpha-absent, absent-full, absent-of) depth 8)
 
 content-checked : (c : Content) → TypedContent c → T (consistent c) → checkContent c ≡ ok tt → length (fileOf c) ≤ maxFile → Rules c
 unfolding checkContent
@@ -99,34 +85,16 @@ content-checked c h k e s =
     unguard (not (c .flags .animation) || hasLoop (c .extensions)) 14 0 _ e7 λ t8 e8.
     unbind (select (hasAlpha (c .flags)) (checkHeader (bitDepth (c .flags)) (c .alphaHeader)) (ok tt)) _ e8 λ v e9 e10.
     let es = entries-checked (c .loop) false (c .extensions) (h .extensions) e6 in
-    record {
-      pixel-format = leb→le _ _ t1;
-      bit-depth = leb→le _ _ t2;
-      color-space = leb→le _ _ (and-left (leb (c .flags .colorSpace) 4) _ t3);
-      gray = flags-sound (c .flags) (record { pixel-format = t1; bit-depth = t2; color-space = t3 });
-      width = h .width;
-      width-not-zero = eqb-no t4;
-      height = h .height;
-      height-not-zero = eqb-no t5;
-      absent-block = a .absent-block;
-      entry-limit = h .few;
-      entries = es .entries;
-      one-loop = es .one-loop;
-      no-loop = a .no-loop;
-      animated = λ f. is-true (hasLoop (c .extensions)) (unless (c .flags .animation) (hasLoop (c .extensions)) t8 f);
-      no-alpha = a .no-alpha;
-      alpha-header = λ f. header-checked (c .alphaHeader) (bitDepth (c .flags)) (sym (select-true _ _ f) ∙ e9) (a .alpha) (h .alpha-nine);
-      color-header = header-checked (c .colorHeader) (bitDepth (c .flags)) e10 (a .color) (h .color-nine);
-      data-bytes = h .data-bytes;
-      size = s;
-    }
+    let alpha : hasAlpha (c .flags) ≡ true → HeaderRules (bitDepth (c .flags)) (c .alphaHeader) =
+    λ f. header-checked (c .alphaHeader) _ (sym (select-true _ _ f) ∙ e9) (a .alpha) (h .alpha-nine) in
+    let color = header-checked (c .colorHeader) _ e10 (a .color) (h .color-nine) in
+    search (passed, is-true, eqb-no, flags-sound)
 
 content-passes : (c : Content) → Rules c → checkContent c ≡ ok tt
 unfolding checkContent
 content-passes c r =
     let f = flags-full (c .flags) (r .pixel-format) (r .bit-depth) (r .color-space) (r .gray) in
-    let alpha : select (hasAlpha (c .flags)) (checkHeader (bitDepth (c .flags)) (c .alphaHeader)) (ok tt) ≡ ok tt =
-    by-tag (hasAlpha (c .flags)) (λ a. select-true _ _ a ∙ header-passes (c .alphaHeader) (bitDepth (c .flags)) (r .alpha-header a)) (λ a. select-false _ _ a) in
+    let alpha = by-flag (λ (o : Outcome Unit). o ≡ ok tt) (hasAlpha (c .flags)) _ (ok tt) (λ a. header-passes (c .alphaHeader) (bitDepth (c .flags)) (r .alpha-header a)) (λ _. refl) in
     rw (
       le-leb _ _ (r .pixel-format),
       le-leb _ _ (r .bit-depth),
@@ -156,11 +124,8 @@ zero-sound (e ∷ es) t = (same e (and-left (isZero e) _ t), zero-sound es (and-
   where
     same : (e : Entry) → T (isZero e) → e ≡ zeroEntry
     same e t =
-        let t1 = and-right (eqb (e .tag) 0) _ t in
-        let a = eqb-yes (and-left (eqb (e .tag) 0) _ t) in
-        let b = eqb-yes (and-left (eqb (e .payload .start) 0) _ t1) in
-        let d = eqb-yes (and-right (eqb (e .payload .start) 0) _ t1) in
-        λ z. record { tag = a z; payload = record { start = b z; length = d z } }
+        let q : (e .tag ≡ 0) × (e .payload .start ≡ 0) × (e .payload .length ≡ 0) = search passed in
+        λ z. record { tag = q .0 z; payload = record { start = q .1 z; length = q .2 z } }
 
 zero-full : (es : List Entry) → All (λ (e : Entry). e ≡ zeroEntry) es → zeroEntries es ≡ true
 zero-full [] h = refl
@@ -175,15 +140,8 @@ module _ (r : Record) (source : List ℕ) (typed : Typed r) (bytes : All Byte so
   typed-content : r .«entry_count» ≤ 16 → TypedContent (contentOf r source)
   unfolding contentOf
   typed-content h =
-      record {
-        width = typed .width;
-        height = typed .height;
-        few = rw (length-map (usedEntries r) (extensionOf source), length-take) (omega arith);
-        extensions = typed-extensions source bytes (usedEntries r) (all-take (λ (e : Entry). e .tag < 2 ^ 32) (r .«entry_count») (r .entries) (typed .tags));
-        alpha-nine = typed .alpha-nine;
-        color-nine = typed .color-nine;
-        data-bytes = all-take Byte (r .«data» .length) _ (all-drop Byte (r .«data» .start) source bytes);
-      }
+      let few : length (map (extensionOf source) (usedEntries r)) ≤ 16 = rw (length-map (usedEntries r) (extensionOf source), length-take) (omega arith) in
+      search (typed-extensions, all-take, all-drop)
 
   -- what is written is the file of a writable record
   pub written-sound : (capacity : ℕ) (l : List ℕ) → writeOutcome capacity r source ≡ ok l → Writable capacity r source × (l ≡ fileOf (contentOf r source))
@@ -196,17 +154,9 @@ module _ (r : Record) (source : List ℕ) (typed : Typed r) (bytes : All Byte so
       unbind (checkContent c) _ e3 λ u e4 e5.
       unguard (leb (length (fileOf c)) maxFile) 1 0 _ e5 λ t6 e6.
       unguard (leb (length (fileOf c)) capacity) 20 0 _ e6 λ t7 e7.
-      let few = leb→le (r .«entry_count») 16 t1 in (
-        record {
-          few = few;
-          payloads = in-source-sound source (usedEntries r) (and-left (entriesInSource source (usedEntries r)) _ t2);
-          data-range = leb→le _ _ (and-right (entriesInSource source (usedEntries r)) _ t2);
-          unused = zero-sound (drop (r .«entry_count») (r .entries)) (and-left (unusedZero r) _ t3);
-          rules = content-checked c (typed-content few) (and-right (unusedZero r) _ t3) e4 (leb→le _ _ t6);
-          holds = leb→le _ _ t7;
-        },
-        sym (ok-injective e7),
-      )
+      let few = leb→le (r .«entry_count») 16 t1 in
+      let rules = content-checked c (typed-content few) (and-right (unusedZero r) _ t3) e4 (leb→le _ _ t6) in
+      (search (passed, in-source-sound, zero-sound), sym (ok-injective e7))
 
 pub written-full : (capacity : ℕ) (r : Record) (source : List ℕ) → Writable capacity r source → writeOutcome capacity r source ≡ ok (fileOf (contentOf r source))
 unfolding writeOutcome sizedFile rangesInSource unusedZero
@@ -229,9 +179,7 @@ entries-within [] p n h = tt
 entries-within (x ∷ es) p n h =
     let tag = ue7Bytes (x .tag) in
     let size = ue7Bytes (length (x .payload)) in
-    let n1 = length-append (extensionBytes x) (blockBytes es) in
-    let n2 = length-append tag (size ++ x .payload) in
-    let n3 = length-append size (x .payload) in
+    let whole = entry-size x es in
     (omega arith, entries-within es (p + length tag + length size + length (x .payload)) n (omega arith))
 
 padding-zero : (n : ℕ) → All (λ (e : Entry). e ≡ zeroEntry) (replicate n zeroEntry)
@@ -244,15 +192,11 @@ record-writable c r capacity h =
     let size = data-end c r in
     record {
       few = r .entry-limit;
-      payloads =
-          subst (All (λ (e : Entry). e .payload .start + e .payload .length ≤ length (fileOf c))) (sym (used-entries (blockStart c) (c .extensions)))
-          (entries-within (c .extensions) (blockStart c) (length (fileOf c)) (omega (arith, start-after c)));
+      payloads = rw used-entries (entries-within (c .extensions) (blockStart c) (length (fileOf c)) (omega (arith, start-after c)));
       data-range = omega arith;
-      unused =
-          subst (All (λ (e : Entry). e ≡ zeroEntry)) (sym (drop-at (entriesAt (blockStart c) (c .extensions)) _ (length (c .extensions)) (entries-length (blockStart c) (c .extensions))))
-          (padding-zero (16 - length (entriesAt (blockStart c) (c .extensions))));
-      rules = subst Rules (sym same) r;
-      holds = subst (λ (d : Content). length (fileOf d) ≤ capacity) (sym same) h;
+      unused = rw (drop-at (entriesAt (blockStart c) (c .extensions)) _ (length (c .extensions)) (entries-length (blockStart c) (c .extensions))) (search padding-zero);
+      rules = rw same r;
+      holds = rw same h;
     }
 
 pub record-written : (c : Content) → Rules c → (capacity : ℕ) → length (fileOf c) ≤ capacity → writeOutcome capacity (recordOf c) (fileOf c) ≡ ok (fileOf c)

@@ -1,6 +1,5 @@
 -- `list::header_numbers` meets its contract. Assumes nothing.
 use mathlib.Core.Path.{_≡_, sym, _∙_}
-use mathlib.Core.List.{_∷_}
 use lib.ListN.{length, length-map}
 use Rattle.bpg_export.specs.Numbers.{headerNumbers}
 use Rattle.bpg_export.proofs.NumberLaws.{flag-number, nine-flags, header-length}
@@ -117,18 +116,8 @@ returns : tie.Need-returns
 unfolding headerNumbers
 returns c =
     let s = c .before .before .before .before .before .before .before .before .before in
-    let h = s .args .t1 in (
-      λ z.
-          h .«log2_min_luma_coding_block_size_minus3» ∷ h .«log2_diff_max_min_luma_coding_block_size»
-          ∷ h .«log2_min_transform_block_size_minus2» ∷ h .«log2_diff_max_min_transform_block_size»
-          ∷ h .«max_transform_hierarchy_depth_intra» ∷ flag-number (h .«sample_adaptive_offset_enabled_flag») z
-          ∷ flag-number (h .«pcm_enabled_flag») z ∷ h .«pcm_sample_bit_depth_luma_minus1» ∷ h .«pcm_sample_bit_depth_chroma_minus1»
-          ∷ h .«log2_min_pcm_luma_coding_block_size_minus3» ∷ h .«log2_diff_max_min_pcm_luma_coding_block_size»
-          ∷ flag-number (h .«pcm_loop_filter_disabled_flag») z ∷ flag-number (h .«strong_intra_smoothing_enabled_flag») z
-          ∷ flag-number (h .«sps_extension_present_flag») z ∷ flag-number (h .«sps_range_extension_flag») z ∷ h .«sps_extension_7bits»
-          ∷ nine-flags (h .«range_flags») (nine s) z,
-      header-length h (nine s),
-    )
+    let h = s .args .t1 in
+    (rw (nine-flags (h .«range_flags») (nine s)) (simp flag-number), header-length h (nine s))
 
 pub header-numbers-spec : {M : Type 1} → statement M
 header-numbers-spec =
