@@ -82,18 +82,22 @@ module _ (source : List ℕ) (r : Record) where
   unfolding rangesInSource
   payloads-held e = both (entriesInSource source (usedEntries r)) (inSource source (r .«data»)) e .0
 
+-- ---- three numbers compared, as for an entry that is zero and for loop numbers that are the same
+
+module _ (a b c x y z : ℕ) where
+  abbrev same : Bool
+  same = eqb a x && (eqb b y && eqb c z)
+
+  pub first-differs : a ≢ x → false ≡ same
+  first-differs n = rw (ne-eqb _ _ n)
+
+  pub second-differs : a ≡ x → b ≢ y → false ≡ same
+  second-differs e n = rw (eq-eqb _ _ e, ne-eqb _ _ n)
+
+  pub third-decides : a ≡ x → b ≡ y → eqb c z ≡ same
+  third-decides e f = rw (eq-eqb _ _ e, eq-eqb _ _ f)
+
 -- ---- unused entries
-
-module _ (e : Entry) where
-  pub tag-set : e .tag ≢ 0 → false ≡ isZero e
-  tag-set a = rw (ne-eqb _ _ a)
-
-  module _ (tag : e .tag ≡ 0) where
-    pub start-set : e .payload .start ≢ 0 → false ≡ isZero e
-    start-set a = rw (eq-eqb _ _ tag, ne-eqb _ _ a)
-
-    pub length-decides : e .payload .start ≡ 0 → eqb (e .payload .length) 0 ≡ isZero e
-    length-decides a = rw (eq-eqb _ _ tag, eq-eqb _ _ a)
 
 module _ (r : Record) (k : ℕ) (whole : length (r .entries) ≡ maxEntries) (rest : zeroEntries (drop k (r .entries)) ≡ unusedZero r) where
   module _ (d : Entry) (h : k < maxEntries) where
@@ -126,17 +130,6 @@ module _ (source : List ℕ) (es : List Entry) (n k : ℕ)
 
 -- ---- the loop numbers
 
-module _ (p q : Loop) where
-  pub count-differs : p .count ≢ q .count → false ≡ sameLoop p q
-  count-differs a = rw (ne-eqb _ _ a)
-
-  module _ (count : p .count ≡ q .count) where
-    pub num-differs : p .periodNum ≢ q .periodNum → false ≡ sameLoop p q
-    num-differs a = rw (eq-eqb _ _ count, ne-eqb _ _ a)
-
-    pub den-decides : p .periodNum ≡ q .periodNum → eqb (p .periodDen) (q .periodDen) ≡ sameLoop p q
-    den-decides a = rw (eq-eqb _ _ count, eq-eqb _ _ a)
-
 -- a payload of tag 5, by what is read of it
 module _ (p : Loop) (l : List ℕ) where
   abbrev Numbers : Type 0
@@ -150,31 +143,30 @@ module _ (p : Loop) (l : List ℕ) where
   as-checked m e = rw e
 
   module _ (a : Animation) (e : a ≡ animationAnswer (loopNumbers .decode 0 0 l)) where
-    pub payload-refused : a .status ≢ 0 → a .status ≡ statusOf (checkLoop p l)
-    payload-refused n = by (loopNumbers .decode 0 0 l) refl e
+    -- the numbers were read, or the payload is refused
+    read-or-refused : {P : Type 0} → ((x : ℕ × (ℕ × (ℕ × List ℕ))) → checkLoop p l ≡ checked (ok x) → a ≡ animationAnswer (ok x) → P)
+        → ((s o : ℕ) → checkLoop p l ≡ error s 0 → a ≡ animationAnswer (error s o) → P) → P
+    read-or-refused {P} g h = by (loopNumbers .decode 0 0 l) refl e
       where
-        by : (m : Numbers) → loopNumbers .decode 0 0 l ≡ m → a ≡ animationAnswer m → a .status ≡ statusOf (checkLoop p l)
-        by (ok x) d f = absurd (n (ap (λ (y : Animation). y .status) f))
-        by (error s o) d f = ap (λ (y : Animation). y .status) f ∙ sym (ap statusOf (as-checked (error s o) d))
+        by : (m : Numbers) → loopNumbers .decode 0 0 l ≡ m → a ≡ animationAnswer m → P
+        by (ok x) d f = g x (as-checked (ok x) d) f
+        by (error s o) d f = h s o (as-checked (error s o) d) f
+
+    pub payload-refused : a .status ≢ 0 → a .status ≡ statusOf (checkLoop p l)
+    payload-refused n = read-or-refused (λ x c f. absurd (n (λ i. f i .status))) (λ s o c f. (λ i. f i .status) ∙ sym (ap statusOf c))
 
     module _ (z : a .status ≡ 0) where
-      -- the numbers were read, since the refusals are not 0
-      numbers : {P : Type 0} → ((x : ℕ × (ℕ × (ℕ × List ℕ))) → checkLoop p l ≡ guard (sameLoop p (loopFrom (ok x))) 19 0 → animationLoop a ≡ loopFrom (ok x) → P) → P
-      numbers {P} g = by (loopNumbers .decode 0 0 l) refl e
-        where
-          by : (m : Numbers) → loopNumbers .decode 0 0 l ≡ m → a ≡ animationAnswer m → P
-          by (ok x) d f = g x (as-checked (ok x) d) (ap animationLoop f)
-          by (error s o) d f = absurd (omega (arith, loop-check p l s 0 (as-checked (error s o) d) .0 .least, ap (λ (y : Animation). y .status) f))
-
-      decided : (x : ℕ × (ℕ × (ℕ × List ℕ))) → checkLoop p l ≡ guard (sameLoop p (loopFrom (ok x))) 19 0 → animationLoop a ≡ loopFrom (ok x) → (t : Bool)
-          → sameLoop p (animationLoop a) ≡ t → checkLoop p l ≡ guard t 19 0
-      decided x c q t s = c ∙ ap (λ (y : Loop). guard (sameLoop p y) 19 0) (sym q) ∙ ap (λ (b : Bool). guard b 19 0) s
+      -- the refusals are not 0
+      decided : (t : Bool) → sameLoop p (animationLoop a) ≡ t → statusOf (guard t 19 0) ≡ statusOf (checkLoop p l)
+      decided t s =
+          read-or-refused (λ x c f. sym (rw (c, sym (λ i. sameLoop p (animationLoop (f i))) ∙ s)))
+          (λ s o c f. absurd (omega (arith, loop-check p l s 0 c .0 .least, ap (λ (y : Animation). y .status) f)))
 
       pub loop-differs : sameLoop p (animationLoop a) ≡ false → 19 ≡ statusOf (checkLoop p l)
-      loop-differs s = numbers λ x c q. sym (ap statusOf (decided x c q false s))
+      loop-differs s = decided false s
 
       pub loop-same : sameLoop p (animationLoop a) ≡ true → 0 ≡ statusOf (checkLoop p l)
-      loop-same s = numbers λ x c q. sym (ap statusOf (decided x c q true s))
+      loop-same s = decided true s
 
 -- ---- one entry
 
