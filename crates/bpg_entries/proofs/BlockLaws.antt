@@ -7,8 +7,7 @@ use Prim.Native.Nat.{ℕ, zero, suc, _+_, _-_, _≤_, _<_}
 use native.Mathlib.Omega.{arith}
 use lib.ListN.{length, drop, set, length-append, length-drop, drop-of-length-le}
 use lib.Seq.{length-take-le}
-use borrow.Author.Tests.{le-leb, lt-leb, eq-eqb, ne-eqb}
-use Rattle.bpg_codec.specs.Select.{select}
+use borrow.Author.Tests.{eqb-true, le-leb, lt-leb, eq-eqb, ne-eqb}
 use Rattle.bpg_codec.specs.Outcome.{Outcome, ok, error, _>>=_}
 use Rattle.bpg_codec.specs.Lawful.{All, Byte}
 use Rattle.bpg_codec.proofs.Outcome.{bind-assoc}
@@ -134,7 +133,7 @@ module _ (region : List ℕ) (p : ℕ) (block : Block) (next : ℕ) (inv : Readi
       stops s o e = ap (blockAnswer p) (sym (step ∙ ap (λ (m : Outcome (Extension × ℕ × List ℕ)). m >>= after) e))
 
       -- an entry was found and read
-      module _ (bytes : All Byte region) (t : Step) (s : Started region (block .animated) next t)
+      module _ (bytes : All Byte region) (t : Step) (s : Started region next t)
           (d : readEntry (block .animated) next (drop next region) ≡ ok (entryOf region t)) where
         abbrev new : Extension
         new = entryOf region t .0
@@ -182,9 +181,6 @@ module _ (region : List ℕ) (p : ℕ) (block : Block) (next : ℕ) (inv : Readi
         count-new : block .«entry_count» + 1 ≡ length (inv .done ++ (new ∷ []))
         count-new = omega (arith, count, length-append (inv .done) (new ∷ []))
 
-        loop-new : loopOf (inv .done ++ (new ∷ [])) ≡ select (isLoop new) (loopIn (new .payload)) (loopOf (inv .done))
-        loop-new = loop-snoc new (inv .done) (λ l. sym seen ∙ s .once l)
-
         module _ (animated : Bool) (animation : Animation) (says : animated ≡ hasLoop (inv .done ++ (new ∷ [])))
             (said : animation ≡ loopAnswer (loopOf (inv .done ++ (new ∷ [])))) where
           added-new : addedBlock block t animated animation ≡ blockAnswer p (ok (inv .done ++ (new ∷ [])))
@@ -208,12 +204,12 @@ module _ (region : List ℕ) (p : ℕ) (block : Block) (next : ℕ) (inv : Readi
         goes-on n =
             let plain = ne-eqb (t .entry .tag) 5 n in
             read-on (block .animated) (block .animation) (rw (has-snoc new (inv .done), plain, or-false) seen)
-            (rw (loop-new, plain, select-false) (ap (λ (b : Block). b .animation) (inv .is)))
+            (rw (loop-snoc new (inv .done) (λ l. absurd (n (eqb-true (t .entry .tag) 5 l))), plain, select-false) (ap (λ (b : Block). b .animation) (inv .is)))
 
-        pub animates : t .entry .tag ≡ 5 → (a : Animation) → a ≡ loopAnswer (loopIn (new .payload)) → Reading region p (addedBlock block t true a) (t .next)
-        animates e a k =
+        pub animates : t .entry .tag ≡ 5 → block .animated ≡ false → (a : Animation) → a ≡ loopAnswer (loopIn (new .payload)) → Reading region p (addedBlock block t true a) (t .next)
+        animates e first a k =
             let control = eq-eqb (t .entry .tag) 5 e in
-            read-on true a (rw (has-snoc new (inv .done), control, or-true)) (rw (loop-new, control, select-true) k)
+            read-on true a (rw (has-snoc new (inv .done), control, or-true)) (rw (loop-snoc new (inv .done) (λ _. sym seen ∙ first), control, select-true) k)
 
 -- ---- the region's length
 

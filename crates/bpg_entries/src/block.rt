@@ -60,22 +60,22 @@ pub fn read(region: &[u8], at: BytePos) -> Block
         if MAX_ENTRIES <= entry_count as usize {
             return refused(11, next);
         }
-        let step = entry::read(region, BytePos(next), animated);
+        let step = entry::read(region, BytePos(next));
         if step.status != 0 {
             return refused(step.status, step.offset);
         }
         let entry = step.entry;
         entries[entry_count as usize] = entry;
         entry_count += 1;
-        next = step.next;
         if entry.tag == 5 {
-            let found = animation::read(&region[0..next], BytePos(entry.payload.start as usize));
+            let found = entry::control(region, next, animated, step);
             if found.status != 0 {
                 return refused(found.status, found.offset);
             }
             animated = true;
             animation = found;
         }
+        next = step.next;
     }
     Block {
         status: 0,

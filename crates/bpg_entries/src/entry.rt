@@ -1,4 +1,6 @@
-// The start of one entry of the extension block: tag, length, and where its payload lies.
+// One entry of the extension block: tag, length, payload; and what tag 5 adds.
+use crate::animation;
+use crate::animation::Animation;
 use bpg_format::Entry;
 use bpg_format::Range;
 use bpg_format::zero_entry;
@@ -7,9 +9,10 @@ use bpg_numbers::ue7;
 use bpg_numbers::ue7::Number;
 ghost use mathlib.Core.Path.{_≡_};
 ghost use Prim.Native.Nat.{_+_, _≤_};
-ghost use lib.ListN.{length as count, drop};
+ghost use lib.ListN.{length as count, take, drop};
 ghost use Rattle.bpg_format.specs.Limits.{maxFile};
-ghost use Rattle.bpg_entries.specs.Entries.{entryStart, refusedStep, foundStep, stepAnswer};
+ghost use Rattle.bpg_entries.specs.Animations.{animationAnswer};
+ghost use Rattle.bpg_entries.specs.Entries.{entryStart, refusedStep, foundStep, stepAnswer, animationControl};
 
 // Status 0, the entry, and the offset after it; or a refusal.
 pub struct Step {
@@ -49,12 +52,11 @@ fn found(tag: u32, start: usize, size: u32) -> Step
     }
 }
 
-// The entry at `at`; `seen`: an entry with tag 5 stands before it. The loop numbers of tag 5 are left to the caller:
-// an answer that held them would be copied for each entry.
-pub(crate) fn read(region: &[u8], at: BytePos, seen: bool) -> Step
+// The entry at `at`. What tag 5 adds is left to `control`: an answer that held it would be copied for each entry.
+pub(crate) fn read(region: &[u8], at: BytePos) -> Step
     requires { ⌜ count (now region) ≤ maxFile ⌝ }
     requires { ⌜ at .0 ≤ count (now region) ⌝ }
-    ensures { λ r. ⌜ r ≡ stepAnswer (entryStart seen (at .0) (drop (at .0) (now (region .entry)))) ⌝ }
+    ensures { λ r. ⌜ r ≡ stepAnswer (entryStart (at .0) (drop (at .0) (now (region .entry)))) ⌝ }
 {
     match ue7::read(region, at, 32) {
         Number::Refused(status, offset) => refused(status, offset.0),
@@ -64,11 +66,20 @@ pub(crate) fn read(region: &[u8], at: BytePos, seen: bool) -> Step
                 if region.len() - start.0 < size as usize {
                     return refused(2, length_at.0);
                 }
-                if seen & (tag == 5) {
-                    return refused(13, at.0);
-                }
                 found(tag, start.0, size)
             }
         },
     }
+}
+
+// The loop numbers of an entry with tag 5, found at `at`; `seen`: another stands before it.
+pub(crate) fn control(region: &[u8], at: usize, seen: bool, step: Step) -> Animation
+    requires { ⌜ step .next ≤ count (now region) ⌝ }
+    ensures { λ r. ⌜ r ≡ animationAnswer (animationControl seen at (step .entry .payload .start) (drop (step .entry .payload .start) (take (step .next) (now (region .entry))))) ⌝ }
+{
+    if seen {
+        return animation::refused(13, at);
+    }
+    let end = step.next;
+    animation::read(&region[0..end], BytePos(step.entry.payload.start as usize))
 }

@@ -126,26 +126,14 @@ module _ (c : tie.After-struct-known2 Inv-loop μ-loop) where
   abbrev read : tie.After-read Inv-loop μ-loop
   read = c .before .before .before .before
 
-  here : Started (region (turn read)) (turn read .loop .animated) (turn read .loop .next) (step read)
-  here = step-started _ _ _ (step read) (read .read .ensures) (omega (arith, read .before .before .loop-test .taken)) (c .before .before .if3 .left)
+  here : Started (region (turn read)) (turn read .loop .next) (step read)
+  here = step-started _ false _ (step read) (read .read .ensures) (omega (arith, read .before .before .loop-test .taken)) (c .before .before .if3 .left)
 
   less : maxEntries - (turn read .loop .entry-count + 1) < maxEntries - turn read .loop .entry-count
   less = omega (arith, read .before .if2 .left)
 
-sub-read : tie.Need-sub-read Inv-loop μ-loop
-sub-read c = search needs
-
-part-read-start : tie.Need-part-read-start Inv-loop μ-loop
-part-read-start c = search needs
-
-part-read-end : tie.Need-part-read-end Inv-loop μ-loop
-part-read-end c = omega (arith, here (c .before) .inside)
-
-cast-t24 : tie.Need-cast-t24 Inv-loop μ-loop
-cast-t24 c = search needs
-
-read-requires-2 : tie.Need-read-requires-2 Inv-loop μ-loop
-read-requires-2 c κs = search needs
+control-requires : tie.Need-control-requires Inv-loop μ-loop
+control-requires c κs = here (c .before) .inside
 
 refused-requires-5 : tie.Need-refused-requires-5 Inv-loop μ-loop
 refused-requires-5 c κs = search needs
@@ -153,23 +141,23 @@ refused-requires-5 c κs = search needs
 returns-4 : tie.Need-returns-4 Inv-loop μ-loop
 returns-4 c =
     let f = c .before .before .before in
-    let t = f .before .before .before in
+    let t = f .before in
     let d = t .before in
     c .refused5 .ensures
-    ∙ ends-with (read d) _ _ (numbers-refused _ _ _ (step (read d)) (here d) (t .if4 .taken) (f .read2 .result) (f .read2 .ensures) (c .before .if5 .taken))
+    ∙ ends-with (read d) _ _ (numbers-refused _ _ _ (step (read d)) (here d) (t .if4 .taken) (f .control .result) (f .control .ensures) (c .before .if5 .taken))
 
 loop-less : tie.Need-loop-less Inv-loop μ-loop
-loop-less c = less (c .before .before .before .before .before .before)
+loop-less c = less (c .before .before .before .before)
 
 loop-again : tie.Need-loop-again Inv-loop μ-loop
 loop-again c =
     let f = c .before .before in
-    let t = f .before .before .before in
+    let t = f .before in
     let d = t .before in
     let r = read d in
     let l = turn r in
-    let n = numbers-read _ _ _ (step r) (here d) (t .if4 .taken) (f .read2 .result) (f .read2 .ensures) (bytes l) (c .if5 .left) in
-    animates _ _ (block l) _ (l .loop .inv) (r .before .before .loop-test .taken) (r .before .if2 .left) (bytes l) (step r) (here d) (n .0) (t .if4 .taken) (f .read2 .result) (n .1)
+    let n = numbers-read _ _ _ (step r) (here d) (t .if4 .taken) (f .control .result) (f .control .ensures) (bytes l) (c .if5 .left) in
+    animates _ _ (block l) _ (l .loop .inv) (r .before .before .loop-test .taken) (r .before .if2 .left) (bytes l) (step r) (here d) (n .0) (t .if4 .taken) (n .1) (f .control .result) (n .2)
 
 loop-less-2 : tie.Need-loop-less-2 Inv-loop μ-loop
 loop-less-2 c = less (c .before)
@@ -206,11 +194,7 @@ read-spec =
     mul-entries
     array-set-from-entries
     add-entry-count
-    sub-read
-    part-read-start
-    part-read-end
-    cast-t24
-    read-requires-2
+    control-requires
     refused-requires-5
     returns-4
     loop-less

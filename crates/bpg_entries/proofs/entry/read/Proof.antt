@@ -10,7 +10,7 @@ use Rattle.bpg_codec.proofs.Positions.{within}
 use Rattle.bpg_numbers.specs.Ue7.{ue7}
 use Rattle.bpg_numbers.proofs.Advances.{ue7-advances}
 use Rattle.bpg_numbers.proofs.ReadAt.{value-read, refusal-read}
-use Rattle.bpg_entries.proofs.EntryLaws.{tag-refused, size-refused, too-long, second, started}
+use Rattle.bpg_entries.proofs.EntryLaws.{tag-refused, size-refused, too-long, started}
 use Rattle.bpg_entries.proofs.entry.read.Statement.{statement}
 use Rattle.bpg_entries.proofs.entry.read.Tie as tie
 
@@ -92,44 +92,32 @@ returns : tie.Need-returns
 returns c =
     let d = c .before .before .before in
     let f = first d in
-    c .refused3 .ensures ∙ too-long (region f) (at f) _ (tag f) (after f) (tag-is f) (size d) (payload d) (size-is d) (c .before .if1 .taken)
-
-refused-requires-4 : tie.Need-refused-requires-4
-refused-requires-4 c κs = search needs
-
-returns-2 : tie.Need-returns-2
-returns-2 c =
-    let e = c .before .before in
-    let d = e .before .before in
-    let f = first d in
-    c .refused4 .ensures ∙ second (region f) (at f) _ (tag f) (after f) (tag-is f) (size d) (payload d) (size-is d) (e .if1 .left) (c .before .if2 .taken)
+    c .refused3 .ensures ∙ too-long (region f) (at f) (tag f) (after f) (tag-is f) (size d) (payload d) (size-is d) (c .before .if1 .taken)
 
 found-requires : tie.Need-found-requires
 found-requires c κs =
-    let e = c .before in
-    let d = e .before .before in
-    omega (arith, inside d, e .if1 .left, start (first d) .pre .0)
+    let d = c .before .before in
+    omega (arith, inside d, c .if1 .left, start (first d) .pre .0)
+
+returns-2 : tie.Need-returns-2
+returns-2 c =
+    let r = c .before .before .before .before in
+    c .refused .ensures
+    ∙ tag-refused _ _ _ _ (refusal-read (ue7-advances 32) _ _ (r .read .result) (r .read .ensures) _ _ (c .before .before .status .given .1))
 
 returns-3 : tie.Need-returns-3
 returns-3 c =
     let r = c .before .before .before .before in
-    c .refused .ensures
-    ∙ tag-refused _ _ _ _ _ (refusal-read (ue7-advances 32) _ _ (r .read .result) (r .read .ensures) _ _ (c .before .before .status .given .1))
+    let f = r .before in
+    c .refused2 .ensures
+    ∙ size-refused (region f) (at f) (tag f) (after f) (tag-is f) _ _
+    (refusal-read (ue7-advances 32) _ _ (r .read2 .result) (r .read2 .ensures) _ _ (c .before .before .status2 .given .1))
 
 returns-4 : tie.Need-returns-4
 returns-4 c =
-    let r = c .before .before .before .before in
-    let f = r .before in
-    c .refused2 .ensures
-    ∙ size-refused (region f) (at f) _ (tag f) (after f) (tag-is f) _ _
-    (refusal-read (ue7-advances 32) _ _ (r .read2 .result) (r .read2 .ensures) _ _ (c .before .before .status2 .given .1))
-
-returns-5 : tie.Need-returns-5
-returns-5 c =
-    let e = c .before .before in
-    let d = e .before .before in
+    let d = c .before .before .before in
     let f = first d in
-    c .found .ensures ∙ started (region f) (at f) _ (tag f) (after f) (tag-is f) (size d) (payload d) (size-is d) (e .if1 .left) (c .before .if2 .left)
+    c .found .ensures ∙ started (region f) (at f) (tag f) (after f) (tag-is f) (size d) (payload d) (size-is d) (c .before .if1 .left)
 
 pub read-spec : {M : Type 1} → statement M
 read-spec =
@@ -147,9 +135,7 @@ read-spec =
     cast-if1
     refused-requires-3
     returns
-    refused-requires-4
-    returns-2
     found-requires
+    returns-2
     returns-3
-    returns-4
-    returns-5)
+    returns-4)
