@@ -1,4 +1,4 @@
--- The bits of a header: at most 64 where it keeps the rules; its groups, added to an empty buffer, are all that the buffer holds.
+-- The bits of a header: at most 58 where it keeps the rules; its groups, added to an empty buffer, are all that the buffer holds.
 -- Assumes nothing.
 use mathlib.Core.Path.{_≡_, refl, sym, ap, _∙_}
 use mathlib.Core.Bool.{Bool, true, false}
@@ -51,7 +51,7 @@ module _ (depth : ℕ) (h : Header) (rules : HevcRules depth h) where
         code-most (h .«log2_diff_max_min_pcm_luma_coding_block_size»),
       ))
 
-  pub header-short : length (h .«range_flags») ≡ 9 → length (headerBits h) ≤ 64
+  pub header-short : length (h .«range_flags») ≡ 9 → length (headerBits h) ≤ 58
   unfolding headerBits
   header-short nine =
       simp length-append

@@ -11,7 +11,8 @@ ghost use Rattle.bpg_numbers.specs.BitBuffer.{gathered};
 ghost use Rattle.bpg_format.specs.Rules.{HevcRules};
 ghost use Rattle.bpg_format.specs.Syntax.{headerBits};
 
-// The header's bits, which fit the buffer where the header keeps the rules. A number that does not fit its field gives its low bits, and 2^32 - 1, which has no ue(v) code, none.
+// The header's bits, which fit the buffer where the header keeps the rules. A number that does not fit its field gives its low
+// bits, and 2^32 - 1, which has no ue(v) code, none.
 pub fn encode(header: Header) -> BitBuffer
     ensures { λ r. ⌜ r ≡ gathered (headerBits header) ⌝ }
     ensures { λ _. ⌜ ((depth : ℕ) → HevcRules depth header → length (headerBits header) ≤ 64) ⌝ }

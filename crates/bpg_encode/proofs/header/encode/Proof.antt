@@ -1,5 +1,6 @@
 -- `header::encode` meets its contract: the groups of fields are added to an empty buffer, one after another. Assumes nothing.
 use mathlib.Core.Path.{_≡_, sym, _∙_}
+use native.Mathlib.Omega.{arith}
 use lib.ListN.{length, length-map}
 use borrow.Author.Needs.{needs}
 use Rattle.bpg_encode.proofs.AddingLaws.{added-then}
@@ -51,7 +52,7 @@ returns c =
           (added-then (c .before .before .before .add-flag3 .ensures)
           (added-then (c .before .before .add-flag4 .ensures)
           (added-then (c .before .add-sps .ensures) (c .add .ensures)))))))),
-      λ depth rules. header-short depth (start .args .header) rules (nine start),
+      λ depth rules. omega (arith, header-short depth (start .args .header) rules (nine start)),
     )
 
 pub encode-spec : {M : Type 1} → statement M
