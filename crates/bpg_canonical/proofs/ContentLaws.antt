@@ -26,8 +26,8 @@ use Rattle.bpg_format.proofs.Writing.{record-writable}
 use Rattle.bpg_format.proofs.CanonicalLaws.{canonical-rules}
 use Rattle.bpg_writer.specs.Parts.{RangeInside}
 use Rattle.bpg_writer.proofs.PartLaws.{range-length}
-use Rattle.bpg_canonical.specs.Records.{loopSize, canonicalEntry, hasRange, canonicalHeader, canonicalRecord}
-use Rattle.bpg_canonical.proofs.RecordLaws.{take-changed, drop-changed}
+use Rattle.bpg_choices.specs.Records.{loopSize, canonicalEntry, hasRange, canonicalHeader, canonicalRecord}
+use Rattle.bpg_choices.proofs.RecordLaws.{take-changed, drop-changed}
 
 -- ---- an entry
 

@@ -29,7 +29,7 @@ use Rattle.bpg_format.proofs.CanonicalLaws.{canonical-rules}
 use Rattle.bpg_format.proofs.Writing.{written-full}
 use Rattle.bpg_check.specs.Check.{checkRecord}
 use Rattle.bpg_check.proofs.Judgement.{write-checks}
-use Rattle.bpg_canonical.specs.Records.{canonicalRecord}
+use Rattle.bpg_choices.specs.Records.{canonicalRecord}
 use Rattle.bpg_canonical.proofs.ContentLaws.{canonical-content, canonical-writable}
 
 -- ---- writing the canonical record over its file

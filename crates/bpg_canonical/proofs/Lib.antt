@@ -1,4 +1,3 @@
--- Laws of the canonical record.
-pub mod RecordLaws
+-- Laws of writing the canonical record over its file.
 pub mod ContentLaws
 pub mod FileLaws

@@ -1,5 +1,4 @@
 // Canonicalizing a file: read, a record with the canonical choices, written over the file's own bytes.
-use crate::record;
 use bpg_format::Written;
 use bpg_format::written_refused;
 ghost use mathlib.Core.Path.{_≡_};
@@ -15,6 +14,6 @@ pub fn canonicalize(file: &[u8], out: &mut [u8]) -> Written
         return written_refused(reading.status, reading.offset);
     }
     let found = reading.record;
-    let canonical = record::canonical(found);
+    let canonical = bpg_choices::canonical(found);
     bpg_writer::write(canonical, file, out)
 }

@@ -1,5 +1,4 @@
 // The canonical form of a BPG file (document 01: tidying): one form for each picture.
 mod file;
-mod record;
 
 pub use file::canonicalize;

@@ -1,6 +1,5 @@
 -- Laws of judging a record.
 pub mod StatusLaws
-pub mod AbsentLaws
 pub mod HeaderLaws
 pub mod EntryLaws
 pub mod ConsistentLaws

@@ -1,9 +1,9 @@
 // Refusal 19: the presence flags of a record fit its fields.
-use crate::absent;
 use crate::entries;
 use bpg_entries::animation;
 use bpg_format::Record;
 use bpg_format::has_alpha;
+use bpg_rules::absent;
 ghost use mathlib.Core.Path.{_≡_};
 ghost use mathlib.Core.Bool.{_||_};
 ghost use mathlib.Core.List.{List, map};

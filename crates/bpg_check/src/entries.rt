@@ -1,11 +1,11 @@
 // The entries of a record: those in use, and those that are not.
+use bpg_bytes::BytePos;
 use bpg_entries::animation;
 use bpg_entries::animation::Animation;
 use bpg_format::Entry;
 use bpg_format::MAX_ENTRIES;
 use bpg_format::Range;
 use bpg_format::Record;
-use bpg_numbers::BytePos;
 ghost use mathlib.Core.Path.{_≡_};
 ghost use mathlib.Core.Bool.{true, false, _||_};
 ghost use mathlib.Core.List.{List, map};

@@ -1,5 +1,4 @@
 // Judging a record before it is written: its refusal number, or 0.
-pub mod absent;
 mod consistent;
 mod content;
 mod entries;

@@ -4,9 +4,9 @@ use mathlib.Core.Bool.{Bool, true, false}
 use mathlib.Core.List.{List, [], _++_, append-assoc, append-nil}
 use Rattle.bpg_codec.specs.Select.{select}
 use Rattle.bpg_codec.proofs.Select.{select-true, select-false}
-use Rattle.bpg_numbers.specs.declared.bit_buffer.BitBuffer.{BitBuffer}
-use Rattle.bpg_numbers.specs.BitBuffer.{appended, gathered}
-use Rattle.bpg_numbers.proofs.BitBufferLaws.{gathered-append}
+use Rattle.bpg_bit_buffer.specs.declared.BitBuffer.{BitBuffer}
+use Rattle.bpg_bit_buffer.specs.BitBuffer.{appended, gathered}
+use Rattle.bpg_bit_buffer.proofs.BitBufferLaws.{gathered-append}
 use Rattle.bpg_encode.specs.Adding.{Added}
 
 pub added : {b r : BitBuffer} {l : List Bool} → r ≡ appended b l → Added b l r

@@ -11,11 +11,11 @@ use lib.Pow.{pow-pos}
 use Rattle.bpg_codec.specs.Select.{select}
 use Rattle.bpg_codec.proofs.Lists.{either-way}
 use Rattle.bpg_codec.proofs.Bits.{length-bits}
-use Rattle.bpg_numbers.specs.BitNumbers.{expGolombBits, prefixZeros}
-use Rattle.bpg_numbers.proofs.BitNumberLaws.{top, expGolomb-size, expGolomb-none}
-use Rattle.bpg_numbers.specs.declared.bit_buffer.BitBuffer.{BitBuffer}
-use Rattle.bpg_numbers.specs.BitBuffer.{empty, gathered}
-use Rattle.bpg_numbers.proofs.BitBufferLaws.{gathered-fits}
+use Rattle.bpg_bits.specs.BitNumbers.{expGolombBits, prefixZeros}
+use Rattle.bpg_bits.proofs.BitNumberLaws.{top, expGolomb-size, expGolomb-none}
+use Rattle.bpg_bit_buffer.specs.declared.BitBuffer.{BitBuffer}
+use Rattle.bpg_bit_buffer.specs.BitBuffer.{empty, gathered}
+use Rattle.bpg_bit_buffer.proofs.BitBufferLaws.{gathered-fits}
 use Rattle.bpg_format.specs.declared.record.Header.{Header}
 use Rattle.bpg_format.specs.Syntax.{pcmBits, spsExtensionBits, headerBits}
 use Rattle.bpg_format.specs.Rules.{HevcRules}

@@ -2,9 +2,9 @@
 use mathlib.Core.Path.{_≡_}
 use mathlib.Core.Bool.{Bool}
 use mathlib.Core.List.{List, _++_}
-use Rattle.bpg_numbers.specs.BitNumbers.{expGolombBits}
-use Rattle.bpg_numbers.specs.BitBuffer.{gathered}
-use Rattle.bpg_numbers.specs.declared.bit_buffer.BitBuffer.{BitBuffer}
+use Rattle.bpg_bits.specs.BitNumbers.{expGolombBits}
+use Rattle.bpg_bit_buffer.specs.BitBuffer.{gathered}
+use Rattle.bpg_bit_buffer.specs.declared.BitBuffer.{BitBuffer}
 use Rattle.bpg_format.specs.declared.record.Header.{Header}
 
 -- r has these bits after those of b

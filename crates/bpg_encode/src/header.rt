@@ -1,13 +1,12 @@
 // All fields of a HEVC header, in the specification's order.
 use crate::fields;
 use crate::range_flags;
+use bpg_bit_buffer::BitBuffer;
 use bpg_format::Header;
-use bpg_numbers::bit_buffer;
-use bpg_numbers::bit_buffer::BitBuffer;
 ghost use mathlib.Core.Path.{_≡_};
 ghost use Prim.Native.Nat.{ℕ, _≤_};
 ghost use lib.ListN.{length};
-ghost use Rattle.bpg_numbers.specs.BitBuffer.{gathered};
+ghost use Rattle.bpg_bit_buffer.specs.BitBuffer.{gathered};
 ghost use Rattle.bpg_format.specs.Rules.{HevcRules};
 ghost use Rattle.bpg_format.specs.Syntax.{headerBits};
 
@@ -17,7 +16,7 @@ pub fn encode(header: Header) -> BitBuffer
     ensures { λ r. ⌜ r ≡ gathered (headerBits header) ⌝ }
     ensures { λ _. ⌜ ((depth : ℕ) → HevcRules depth header → length (headerBits header) ≤ 64) ⌝ }
 {
-    let sizes = fields::add_sizes(bit_buffer::none(), header);
+    let sizes = fields::add_sizes(bpg_bit_buffer::none(), header);
     let offset = fields::add_flag(sizes, header.sample_adaptive_offset_enabled_flag);
     let pcm_flag = fields::add_flag(offset, header.pcm_enabled_flag);
     let pcm = fields::add_pcm(pcm_flag, header);

@@ -1,7 +1,7 @@
 // The nine flags of the SPS range extension.
 use crate::fields;
+use bpg_bit_buffer::BitBuffer;
 use bpg_format::Header;
-use bpg_numbers::bit_buffer::BitBuffer;
 ghost use mathlib.Core.List.{[]};
 ghost use Rattle.bpg_codec.specs.Select.{select};
 ghost use Rattle.bpg_encode.specs.Adding.{Added};

@@ -1,5 +1,5 @@
 // The payload of tag 5, animation control: loop count and frame period, then dummy bytes.
-use bpg_numbers::BytePos;
+use bpg_bytes::BytePos;
 use bpg_numbers::ue7;
 use bpg_numbers::ue7::Number;
 ghost use mathlib.Core.Path.{_≡_};

@@ -2,11 +2,11 @@
 use crate::animation;
 use crate::animation::Animation;
 use crate::entry;
+use bpg_bytes::BytePos;
 use bpg_format::Entry;
 use bpg_format::MAX_ENTRIES;
 use bpg_format::MAX_FILE;
 use bpg_format::zero_entry;
-use bpg_numbers::BytePos;
 ghost use mathlib.Core.Path.{_≡_};
 ghost use Rattle.bpg_entries.specs.Blocks.{refusedBlock, blockAnswer, entriesIn};
 

@@ -1,10 +1,10 @@
 // One entry of the extension block: tag, length, payload; and what tag 5 adds.
 use crate::animation;
 use crate::animation::Animation;
+use bpg_bytes::BytePos;
 use bpg_format::Entry;
 use bpg_format::Range;
 use bpg_format::zero_entry;
-use bpg_numbers::BytePos;
 use bpg_numbers::ue7;
 use bpg_numbers::ue7::Number;
 ghost use mathlib.Core.Path.{_≡_};

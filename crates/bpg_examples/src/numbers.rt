@@ -7,13 +7,12 @@
 // A buffer is filled with a5 first.
 use crate::hex;
 use crate::text;
-use bpg_numbers::BitPos;
-use bpg_numbers::BytePos;
-use bpg_numbers::bit_buffer;
-use bpg_numbers::bit_buffer::BitBuffer;
-use bpg_numbers::bits;
-use bpg_numbers::bits::BitNumber;
-use bpg_numbers::exp_golomb;
+use bpg_bit_buffer::BitBuffer;
+use bpg_bits::bits;
+use bpg_bits::bits::BitNumber;
+use bpg_bits::exp_golomb;
+use bpg_bytes::BitPos;
+use bpg_bytes::BytePos;
 use bpg_numbers::ue7;
 use bpg_numbers::ue7::Number;
 ghost use Prim.Native.Nat.{_≤_};
@@ -67,7 +66,7 @@ fn write_ue7(space: &mut [u8], size: usize, at: usize, v: u64) {
 }
 
 fn append(n: u32, at: usize, v: u64) {
-    let b = bit_buffer::append(
+    let b = bpg_bit_buffer::append(
         BitBuffer {
             bits: 0xa5a5_a5a5_a5a5_a5a5,
             len: BitPos(at),
@@ -83,8 +82,8 @@ fn append_exp_golomb(space: &mut [u8], size: usize, at: usize, v: u64) {
         return;
     }
     let low = (v % 0x1_0000_0000) as u32;
-    let b = bit_buffer::append_exp_golomb(bit_buffer::none(), low);
-    let end = bit_buffer::write(&mut space[0..size], BytePos(at), b);
+    let b = bpg_bit_buffer::append_exp_golomb(bpg_bit_buffer::none(), low);
+    let end = bpg_bit_buffer::write(&mut space[0..size], BytePos(at), b);
     show_pair(b" bits ", exp_golomb::size(low) as u64, b" next ", end.0);
     text::show(b" ");
     hex::show_bytes(&space[0..size]);

@@ -13,7 +13,7 @@ use Rattle.bpg_codec.specs.Parts.{sequence, absent, fixed}
 use Rattle.bpg_codec.proofs.Outcome.{bind-assoc, unlocate}
 use Rattle.bpg_codec.proofs.Positions.{Advances, sequence-advances, absent-advances, select-advances, mapped-advances, mapped-at, four-at, five-at, fixed-advances}
 use Rattle.bpg_codec.proofs.Tokens.{all-bits}
-use Rattle.bpg_numbers.proofs.Advances.{unsigned-advances, expGolomb-advances}
+use Rattle.bpg_bits.proofs.Advances.{unsigned-advances, expGolomb-advances}
 use Rattle.bpg_format.specs.FileCodec.{oneBit, optional, sizeFields, pcmFields, spsFields, PcmFields, noPcm, noSps, fieldSequence, headerFrom, fieldsOf, headerFields}
 use Rattle.bpg_format.proofs.FileLaws.{optional-lawful, pcm-lawful, sps-lawful}
 use Rattle.bpg_fields.specs.AllFields.{restSequence}

@@ -15,8 +15,8 @@ use Rattle.bpg_codec.proofs.Bits.{bits-number}
 use Rattle.bpg_codec.proofs.Lists.{either-way}
 use Rattle.bpg_codec.specs.Bits.{Bit, bit, bits as bitsOf}
 use Rattle.bpg_codec.proofs.Positions.{Advances, mapped-advances, sequence-at, mapped-at, pairs-then}
-use Rattle.bpg_numbers.specs.BitNumbers.{unsigned, expGolomb}
-use Rattle.bpg_numbers.proofs.Advances.{unsigned-advances, expGolomb-advances}
+use Rattle.bpg_bits.specs.BitNumbers.{unsigned, expGolomb}
+use Rattle.bpg_bits.proofs.Advances.{unsigned-advances, expGolomb-advances}
 use Rattle.bpg_format.specs.FileCodec.{oneBit, optional, sizeFields, pcmFields, spsFields}
 use Rattle.bpg_fields.specs.Fields.{codePair, depthPair}
 

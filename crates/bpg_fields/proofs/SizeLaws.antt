@@ -15,8 +15,8 @@ use Rattle.bpg_codec.specs.Bits.{number, numberFrom, bits, zeros, unpack}
 use Rattle.bpg_codec.specs.Parts.{sequence}
 use Rattle.bpg_codec.proofs.Lists.{either-way, take-replicate}
 use Rattle.bpg_codec.proofs.Bits.{length-bits, numberFrom-bits, numberFrom-append, number-small, bits-number, bits-append, bits-mod, bits-zero, unpack-one, unpack-append, unpack-drop, unpack-take, length-unpack}
-use Rattle.bpg_numbers.specs.BitNumbers.{regionBits, prefixZeros, expGolombBits}
-use Rattle.bpg_numbers.proofs.BitNumberLaws.{Top, top, top-unique, expGolomb-one-field}
+use Rattle.bpg_bits.specs.BitNumbers.{regionBits, prefixZeros, expGolombBits}
+use Rattle.bpg_bits.proofs.BitNumberLaws.{Top, top, top-unique, expGolomb-one-field}
 use Rattle.bpg_format.specs.FileCodec.{SizeFields, sizeFields}
 use Rattle.bpg_format.proofs.FileLaws.{sizes-lawful}
 use Rattle.bpg_fields.specs.declared.sizes.Code.{Code}

@@ -6,9 +6,9 @@ use Rattle.bpg_codec.specs.Outcome.{Outcome, ok, error, _>>=_}
 use Rattle.bpg_codec.specs.Codec.{Codec}
 use Rattle.bpg_codec.specs.Bits.{bits}
 use Rattle.bpg_codec.specs.Parts.{sequence}
-use Rattle.bpg_numbers.specs.declared.bits.BitNumber.{BitNumber}
-use Rattle.bpg_numbers.specs.BitNumbers.{unsigned, expGolomb}
-use Rattle.bpg_numbers.specs.Answers.{bitOutcome}
+use Rattle.bpg_bits.specs.declared.bits.BitNumber.{BitNumber}
+use Rattle.bpg_bits.specs.BitNumbers.{unsigned, expGolomb}
+use Rattle.bpg_bits.specs.Answers.{bitOutcome}
 use Rattle.bpg_format.specs.declared.record.Header.{Header}
 use Rattle.bpg_format.specs.FileCodec.{SizeFields, PcmFields}
 use Rattle.bpg_fields.specs.declared.fields.Flag.{Flag}

@@ -5,7 +5,7 @@ use mathlib.Core.List.{List, _++_}
 use Prim.Native.Nat.{ℕ, _-_, _%_, _^_, _≤_, _<_}
 use lib.ListN.{length, take, drop}
 use Rattle.bpg_codec.specs.Bits.{bits, zeros, unpack}
-use Rattle.bpg_numbers.specs.BitNumbers.{regionBits, expGolombBits}
+use Rattle.bpg_bits.specs.BitNumbers.{regionBits, expGolombBits}
 use Rattle.bpg_fields.specs.declared.sizes.Code.{Code}
 
 -- the 64 bits from byte `start` on; zeros past the region

@@ -6,14 +6,14 @@ use crate::fields::Sizes;
 use crate::fields::Sps;
 use crate::range_flags;
 use crate::sizes;
+use bpg_bits::bits::BitNumber;
+use bpg_bytes::BitPos;
 use bpg_format::Header;
 use bpg_format::zero_header;
-use bpg_numbers::BitPos;
-use bpg_numbers::bits::BitNumber;
 ghost use mathlib.Core.Path.{_≡_};
 ghost use Prim.Native.Nat.{ℕ};
 ghost use Rattle.bpg_codec.specs.Codec.{decodeAt};
-ghost use Rattle.bpg_numbers.specs.BitNumbers.{regionBits};
+ghost use Rattle.bpg_bits.specs.BitNumbers.{regionBits};
 ghost use Rattle.bpg_format.specs.FileCodec.{headerFields};
 ghost use Rattle.bpg_fields.specs.AllFields.{missingFields, fieldsOutcome, restAt};
 

@@ -1,12 +1,12 @@
 // Groups of fields of a HEVC header, each read at a bit position of a region.
-use bpg_numbers::BitPos;
-use bpg_numbers::bits;
-use bpg_numbers::bits::BitNumber;
-use bpg_numbers::exp_golomb;
+use bpg_bits::bits;
+use bpg_bits::bits::BitNumber;
+use bpg_bits::exp_golomb;
+use bpg_bytes::BitPos;
 ghost use mathlib.Core.Path.{_≡_};
 ghost use Prim.Native.Nat.{ℕ};
 ghost use Rattle.bpg_codec.specs.Codec.{decodeAt};
-ghost use Rattle.bpg_numbers.specs.BitNumbers.{regionBits};
+ghost use Rattle.bpg_bits.specs.BitNumbers.{regionBits};
 ghost use Rattle.bpg_format.specs.FileCodec.{oneBit, optional, sizeFields, pcmFields, spsFields, noPcm, noSps};
 ghost use Rattle.bpg_fields.specs.Fields.{codePair, depthPair, flagOutcome, pairOutcome, sizesOutcome, pcmOutcome, spsOutcome};
 

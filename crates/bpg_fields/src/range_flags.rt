@@ -1,8 +1,8 @@
 // The nine flags of the SPS range extension.
+use bpg_bits::bits;
+use bpg_bits::bits::BitNumber;
+use bpg_bytes::BitPos;
 use bpg_format::Header;
-use bpg_numbers::BitPos;
-use bpg_numbers::bits;
-use bpg_numbers::bits::BitNumber;
 ghost use mathlib.Core.Path.{_≡_};
 ghost use mathlib.Core.Bool.{false};
 ghost use Prim.Native.Nat.{ℕ};
@@ -10,7 +10,7 @@ ghost use lib.ListN.{replicate};
 ghost use Rattle.bpg_codec.specs.Codec.{decodeAt, atItem};
 ghost use Rattle.bpg_codec.specs.Bits.{Bit, bits as bitsOf};
 ghost use Rattle.bpg_codec.specs.Parts.{fixed};
-ghost use Rattle.bpg_numbers.specs.BitNumbers.{regionBits};
+ghost use Rattle.bpg_bits.specs.BitNumbers.{regionBits};
 ghost use Rattle.bpg_format.specs.FileCodec.{optional};
 ghost use Rattle.bpg_fields.specs.Fields.{nineOutcome, withFlags};
 

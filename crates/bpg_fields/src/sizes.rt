@@ -1,16 +1,16 @@
 // The five block sizes of a HEVC header, read from its first 64 bits: files have small values there, whose codes are short.
 use crate::fields;
 use crate::fields::Sizes;
-use bpg_numbers::BitPos;
-use bpg_numbers::arithmetic::least;
-use bpg_numbers::arithmetic::remaining;
-use bpg_numbers::arithmetic::wide;
-use bpg_numbers::bits;
+use bpg_bits::bits;
+use bpg_bytes::BitPos;
+use bpg_bytes::arithmetic::least;
+use bpg_bytes::arithmetic::remaining;
+use bpg_bytes::arithmetic::wide;
 ghost use mathlib.Core.Path.{_≡_};
 ghost use Prim.Native.Nat.{ℕ, _^_, _<_};
 ghost use Rattle.bpg_codec.specs.Codec.{decodeAt};
 ghost use Rattle.bpg_codec.specs.Bits.{bits as bitsOf};
-ghost use Rattle.bpg_numbers.specs.BitNumbers.{regionBits};
+ghost use Rattle.bpg_bits.specs.BitNumbers.{regionBits};
 ghost use Rattle.bpg_format.specs.FileCodec.{sizeFields};
 ghost use Rattle.bpg_fields.specs.Fields.{sizesOutcome};
 ghost use Rattle.bpg_fields.specs.Sizes.{wordBits, Shown, Room};

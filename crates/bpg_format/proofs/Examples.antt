@@ -8,7 +8,7 @@ use Rattle.bpg_codec.specs.Bits.{bits, unpack, pack, padded}
 use Rattle.bpg_codec.specs.Parts.{guarded}
 use Rattle.bpg_codec.specs.Regions.{thenRest, rest}
 use Rattle.bpg_numbers.specs.Ue7.{groups, ue7Bytes, ue7Rest, ue7Decode}
-use Rattle.bpg_numbers.specs.BitNumbers.{prefixDecode, expGolombBits}
+use Rattle.bpg_bits.specs.BitNumbers.{prefixDecode, expGolombBits}
 use Rattle.bpg_format.specs.Syntax.{extensionPart, headerBits, headerBytes, bodyBytes, dataLength, fileOf}
 use Rattle.bpg_format.specs.FileCodec.{readFlags, loopIn, loopOf, loopNumbers, period, noForbiddenBit, pcmAllowed, hevcAllowed}
 use Rattle.bpg_format.specs.Read.{readLoop, readEntry, readEntries, readBlock, readSizes, readPcm, readSps, readFields, readHeader, readAlphaHeader, readContent}

@@ -19,7 +19,7 @@ use Rattle.bpg_codec.proofs.Regions.{thenRest-lawful, itemThenRest-lawful, mapp
 use Rattle.bpg_codec.proofs.Packed.{packed-lawful}
 use Rattle.bpg_numbers.specs.Ue7.{notZero}
 use Rattle.bpg_numbers.proofs.Ue7Laws.{ue7-lawful, size-positive}
-use Rattle.bpg_numbers.proofs.BitNumberLaws.{unsigned-lawful, expGolomb-lawful}
+use Rattle.bpg_bits.proofs.BitNumberLaws.{unsigned-lawful, expGolomb-lawful}
 use Rattle.bpg_format.specs.Limits.{maxEntries, maxFile}
 use Rattle.bpg_format.specs.declared.record.Header.{Header}
 use Rattle.bpg_format.specs.Zero.{zeroHeader}

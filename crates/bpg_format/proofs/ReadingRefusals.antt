@@ -14,8 +14,9 @@ use Rattle.bpg_codec.specs.Bits.{Bit}
 use Rattle.bpg_codec.specs.Parts.{sequence, same}
 use Rattle.bpg_codec.proofs.Refusals.{Refuses, refuses-ok, refuses-bind, refuses-guard, CodecRefuses, ExactRefuses, sequence-refuses, mapped-refuses, guarded-refuses, sized-refuses, item-refuses, select-refuses, absent-refuses, fixed-refuses, thenRest-refuses, itemThenRest-refuses, mappedExact-refuses, derived-refuses, guardedRegion-refuses, rest-refuses, verbatim-refuses, repeated-refuses, packed-refuses}
 use Rattle.bpg_numbers.specs.Ue7.{ue7, notZero}
-use Rattle.bpg_numbers.specs.BitNumbers.{unsigned, expGolomb}
-use Rattle.bpg_numbers.proofs.Refusals.{ue7-refuses, unsigned-refuses, expGolomb-refuses}
+use Rattle.bpg_bits.specs.BitNumbers.{unsigned, expGolomb}
+use Rattle.bpg_numbers.proofs.Refusals.{ue7-refuses}
+use Rattle.bpg_bits.proofs.Refusals.{unsigned-refuses, expGolomb-refuses}
 use Rattle.bpg_format.specs.Limits.{maxEntries, maxFile}
 use Rattle.bpg_format.specs.Zero.{zeroHeader}
 use Rattle.bpg_format.specs.Content.{Flags, hasAlpha, bitDepth}

@@ -10,7 +10,7 @@ use Rattle.bpg_codec.specs.Codec.{Codec, atItem}
 use Rattle.bpg_codec.specs.Bits.{Bit, bits}
 use Rattle.bpg_codec.specs.Parts.{sequence, mapped, guarded, sized, item, absent, fixed}
 use Rattle.bpg_codec.specs.Regions.{thenRest, itemThenRest, mappedExact, derived, guardedRegion, rest, verbatim, encodeEach, repeated, packed}
-use Rattle.bpg_numbers.specs.BitNumbers.{expGolombBits}
+use Rattle.bpg_bits.specs.BitNumbers.{expGolombBits}
 use Rattle.bpg_format.specs.declared.record.Header.{Header}
 use Rattle.bpg_format.specs.Zero.{zeroHeader}
 use Rattle.bpg_format.specs.Content.{Extension, Content, hasAlpha, bitDepth}

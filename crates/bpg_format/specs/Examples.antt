@@ -7,7 +7,7 @@ use Prim.Native.Nat.{ℕ}
 use lib.ListN.{length, replicate}
 use Rattle.bpg_codec.specs.Outcome.{Outcome, ok, error, located}
 use Rattle.bpg_numbers.specs.Ue7.{ue7}
-use Rattle.bpg_numbers.specs.BitNumbers.{expGolomb}
+use Rattle.bpg_bits.specs.BitNumbers.{expGolomb}
 use Rattle.bpg_format.specs.declared.record.Entry.{Entry}
 use Rattle.bpg_format.specs.declared.record.Header.{Header}
 use Rattle.bpg_format.specs.declared.record.Record.{Record}

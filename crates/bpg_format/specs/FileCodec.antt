@@ -13,7 +13,7 @@ use Rattle.bpg_codec.specs.Bits.{Bit, bit}
 use Rattle.bpg_codec.specs.Parts.{sequence, mapped, guarded, sized, item, absent, fixed, same}
 use Rattle.bpg_codec.specs.Regions.{thenRest, itemThenRest, mappedExact, derived, guardedRegion, rest, verbatim, repeated, packed}
 use Rattle.bpg_numbers.specs.Ue7.{ue7, notZero}
-use Rattle.bpg_numbers.specs.BitNumbers.{unsigned, expGolomb}
+use Rattle.bpg_bits.specs.BitNumbers.{unsigned, expGolomb}
 use Rattle.bpg_format.specs.Limits.{maxEntries, maxFile}
 use Rattle.bpg_format.specs.declared.record.Header.{Header}
 use Rattle.bpg_format.specs.Zero.{zeroHeader}

@@ -9,7 +9,7 @@ use Rattle.bpg_codec.specs.Select.{select}
 use Rattle.bpg_codec.specs.Outcome.{Outcome, ok, error, _>>=_, guard}
 use Rattle.bpg_codec.specs.Bits.{unpack, allZero}
 use Rattle.bpg_numbers.specs.Ue7.{ue7, notZero}
-use Rattle.bpg_numbers.specs.BitNumbers.{unsigned, expGolomb}
+use Rattle.bpg_bits.specs.BitNumbers.{unsigned, expGolomb}
 use Rattle.bpg_format.specs.Limits.{maxEntries, maxFile}
 use Rattle.bpg_format.specs.declared.record.Header.{Header}
 use Rattle.bpg_format.specs.Zero.{zeroHeader}

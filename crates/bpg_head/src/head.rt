@@ -3,7 +3,7 @@ use crate::flags;
 use crate::flags::Flags;
 use crate::size;
 use crate::size::Size;
-use bpg_numbers::BytePos;
+use bpg_bytes::BytePos;
 use bpg_numbers::ue7;
 use bpg_numbers::ue7::Number;
 ghost use mathlib.Core.Path.{_≡_};

@@ -1,5 +1,5 @@
 // Width and height.
-use bpg_numbers::BytePos;
+use bpg_bytes::BytePos;
 use bpg_numbers::ue7;
 use bpg_numbers::ue7::Number;
 ghost use mathlib.Core.Path.{_≡_};

@@ -15,12 +15,11 @@ use Rattle.bpg_codec.proofs.Select.{select-true, select-false}
 use Rattle.bpg_codec.proofs.Outcome.{error-not-ok}
 use Rattle.bpg_codec.proofs.Lists.{take-drop, either-way}
 use Rattle.bpg_codec.proofs.Bits.{unpack-drop}
-use Rattle.bpg_codec.proofs.Positions.{within}
+use Rattle.bpg_codec.proofs.Positions.{whole, within}
 use Rattle.bpg_numbers.specs.Ue7.{ue7}
-use Rattle.bpg_numbers.specs.BitNumbers.{regionBits}
+use Rattle.bpg_bits.specs.BitNumbers.{regionBits}
 use Rattle.bpg_numbers.proofs.Ue7Laws.{decode-end}
 use Rattle.bpg_numbers.proofs.Advances.{ue7-advances}
-use Rattle.bpg_numbers.proofs.ReadAt.{whole}
 use Rattle.bpg_format.specs.Limits.{maxFile}
 use Rattle.bpg_format.specs.declared.record.Header.{Header}
 use Rattle.bpg_format.specs.FileCodec.{noForbiddenBit, hevcAllowed, headerFields}

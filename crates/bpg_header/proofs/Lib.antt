@@ -1,5 +1,4 @@
 -- Laws of the readers of HEVC headers.
-pub mod RuleLaws
 pub mod PaddingLaws
 pub mod HeaderLaws
 pub mod BothHeaderLaws

@@ -12,7 +12,7 @@ use borrow.Author.Tests.{ne-eqb, lt-ltb, le-ltb}
 use Rattle.bpg_codec.specs.Bits.{numberFrom, number, allZero, bits, unpack}
 use Rattle.bpg_codec.proofs.Lists.{drop-next}
 use Rattle.bpg_codec.proofs.Bits.{numberFrom-bounds, numberFrom-bits, bits-append, length-bits, unpack-one, length-unpack, unpack-drop}
-use Rattle.bpg_numbers.specs.BitNumbers.{regionBits}
+use Rattle.bpg_bits.specs.BitNumbers.{regionBits}
 use Rattle.bpg_header.specs.Headers.{isPadding}
 
 -- zero bits make the number 0, and no others do

@@ -1,14 +1,14 @@
 // A HEVC header in its file: a length in bytes, and then the fields in bits.
-use crate::rules;
 use crate::trailing;
+use bpg_bytes::BitPos;
+use bpg_bytes::BytePos;
 use bpg_fields::all_fields;
 use bpg_format::Header;
 use bpg_format::MAX_FILE;
 use bpg_format::zero_header;
-use bpg_numbers::BitPos;
-use bpg_numbers::BytePos;
 use bpg_numbers::ue7;
 use bpg_numbers::ue7::Number;
+use bpg_rules::rules;
 ghost use mathlib.Core.Path.{_≡_};
 ghost use Prim.Native.Nat.{_≤_};
 ghost use lib.ListN.{length as count};

@@ -1,9 +1,9 @@
 // The HEVC headers of a file: the alpha plane's where it has one, then the colour's.
 use crate::header;
 use crate::header::HeaderReading;
+use bpg_bytes::BytePos;
 use bpg_format::Header;
 use bpg_format::zero_header;
-use bpg_numbers::BytePos;
 ghost use mathlib.Core.Path.{_≡_};
 ghost use Rattle.bpg_header.specs.Headers.{headerAnswer};
 ghost use Rattle.bpg_header.specs.BothHeaders.{alphaIn, refusedHeaders, headersAnswer, headersIn};

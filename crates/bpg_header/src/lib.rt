@@ -1,5 +1,4 @@
-// The HEVC headers of a BPG file: lengths, trailing bits, and the rules that the fields keep.
+// The HEVC headers of a BPG file: lengths and trailing bits.
 pub mod header;
 pub mod headers;
-pub mod rules;
 mod trailing;

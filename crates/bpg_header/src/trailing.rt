@@ -1,9 +1,9 @@
 // The bits after a header's last field.
-use bpg_numbers::BitPos;
-use bpg_numbers::bits;
+use bpg_bits::bits;
+use bpg_bytes::BitPos;
 ghost use mathlib.Core.Path.{_≡_};
 ghost use lib.ListN.{drop};
-ghost use Rattle.bpg_numbers.specs.BitNumbers.{regionBits};
+ghost use Rattle.bpg_bits.specs.BitNumbers.{regionBits};
 ghost use Rattle.bpg_header.specs.Headers.{isPadding};
 
 // From `at` on there are 0 to 7 bits, all zero: the low bits of the byte that `at` stands in.

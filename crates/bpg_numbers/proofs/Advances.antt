@@ -1,17 +1,16 @@
--- What is left after a number, and that it is below its limit, whatever the tokens are. Assumes nothing.
+-- What is left after a number, and that it is below its limit, whatever the bytes are. Assumes nothing.
 use mathlib.Core.Path.{_≡_, sym, ap, _∙_, subst}
 use mathlib.Core.Bool.{Bool, true, false, not}
 use mathlib.Core.List.{List, [], _∷_}
 use Prim.Native.Nat.{ℕ, suc, _+_, _-_, _*_, _%_, _^_, _≤_, _<_}
 use native.Mathlib.Omega.{arith}
-use lib.Dec.{ltb, leb, eqb, ltb→lt, leb→le}
+use lib.Dec.{ltb, eqb, ltb→lt}
 use lib.ListN.{length, drop}
 use Rattle.bpg_codec.specs.Select.{select}
 use Rattle.bpg_codec.specs.Outcome.{Outcome, ok}
-use Rattle.bpg_codec.proofs.Outcome.{error-not-ok, ok-injective, unbind, unguard}
-use Rattle.bpg_codec.proofs.Positions.{Advanced, Advances, moved, advanced-then}
+use Rattle.bpg_codec.proofs.Outcome.{error-not-ok, ok-injective, unguard}
+use Rattle.bpg_codec.proofs.Positions.{Advances}
 use Rattle.bpg_numbers.specs.Ue7.{ue7Rest, ue7Decode, ue7}
-use Rattle.bpg_numbers.specs.BitNumbers.{unsigned, prefixDecode, expGolomb}
 
 -- w was read from p on, with q after it and r left
 abbrev Read : (n p : ℕ) (l : List ℕ) → ℕ × ℕ × List ℕ → Type 0
@@ -46,32 +45,3 @@ ue7-advances n =
 
 pub ue7-limit : (n i p : ℕ) (l : List ℕ) (x : ℕ × ℕ × List ℕ) → ue7 n .decode i p l ≡ ok x → x .0 < 2 ^ n
 ue7-limit n i p l x e = reads n p l x e .3
-
--- ---- bits
-
-pub unsigned-advances : (n : ℕ) → Advances (unsigned n)
-unsigned-advances n =
-    record {
-      advances = λ i p l x e.
-          unguard (leb n (length l)) 15 i _ e λ h e1.
-          subst (λ (z : ℕ × ℕ × List Bool). Advanced p l (z .1) (z .2)) (ok-injective e1) (moved p l n (leb→le n (length l) h));
-    }
-
-prefix-advances : (i z p : ℕ) (l : List Bool) (x : ℕ × ℕ × List Bool) → prefixDecode i z p l ≡ ok x → Advanced p l (x .1) (x .2)
-unfolding prefixDecode
-prefix-advances i z p [] x e = absurd (error-not-ok e)
-prefix-advances i z p (true ∷ l) x e =
-    subst (λ (z : ℕ × ℕ × List Bool). Advanced p (true ∷ l) (z .1) (z .2)) (ok-injective e) (moved p (true ∷ l) 1 (omega arith))
-prefix-advances i z p (false ∷ l) x e =
-    unguard (ltb z 31) 15 i _ e λ _ e1.
-    advanced-then (moved p (false ∷ l) 1 (omega arith)) (prefix-advances i (z + 1) (p + 1) l x e1)
-
-pub expGolomb-advances : Advances expGolomb
-expGolomb-advances =
-    record {
-      advances = λ i p l x e.
-          unbind (prefixDecode i 0 p l) _ e λ y e1 e2.
-          unbind (unsigned (y .0) .decode i (y .1) (y .2)) _ e2 λ w e3 e4.
-          subst (λ (z : ℕ × ℕ × List Bool). Advanced p l (z .1) (z .2)) (ok-injective e4)
-          (advanced-then (prefix-advances i 0 p l y e1) (unsigned-advances (y .0) .advances i (y .1) (y .2) w e3));
-    }

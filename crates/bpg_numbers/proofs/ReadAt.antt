@@ -3,19 +3,13 @@ use mathlib.Core.Path.{_≡_, sym, ap, _∙_}
 use mathlib.Core.List.{List}
 use Prim.Native.Nat.{ℕ}
 use lib.ListN.{drop}
-use Rattle.bpg_codec.specs.Outcome.{Outcome, ok, error, _>>=_, located}
+use Rattle.bpg_codec.specs.Outcome.{ok, error, located}
 use Rattle.bpg_codec.specs.Codec.{Codec}
-use Rattle.bpg_codec.proofs.Positions.{Advances, at-offset}
-use Rattle.bpg_numbers.specs.declared.position.BytePos.{BytePos}
+use Rattle.bpg_codec.proofs.Positions.{Advances, whole}
+use Rattle.bpg_bytes.specs.declared.position.BytePos.{BytePos}
 use Rattle.bpg_numbers.specs.declared.ue7.Number.{Number}
 use Rattle.bpg_numbers.specs.declared.ue7.Number.the-variants.{Value, Refused}
 use Rattle.bpg_numbers.specs.Answers.{numberOutcome}
-
--- an answer without what is left says all
-module _ {S A : Type 0} {c : Codec S A} (hc : Advances c) (region : List S) (i p : ℕ) where
-  pub whole : (o : Outcome (A × ℕ)) → o ≡ located (c .decode i p (drop p region))
-      → c .decode i p (drop p region) ≡ (o >>= λ x. ok (x .0, x .1, drop (x .1) region))
-  whole o e = at-offset hc region i p ∙ ap (λ (m : Outcome (A × ℕ)). m >>= λ x. ok (x .0, x .1, drop (x .1) region)) (sym e)
 
 module _ {c : Codec ℕ ℕ} (hc : Advances c) (region : List ℕ) (p : ℕ) (o : Number)
     (e : numberOutcome o ≡ located (c .decode p p (drop p region))) where

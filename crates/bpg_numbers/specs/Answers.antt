@@ -1,17 +1,10 @@
--- Document 01's number and values for each case of the answers.
+-- Document 01's number and values for each case of the answer.
 use Prim.Native.Nat.{ℕ}
 use Rattle.bpg_codec.specs.Outcome.{Outcome, ok, error}
 use Rattle.bpg_numbers.specs.declared.ue7.Number.{Number}
 use Rattle.bpg_numbers.specs.declared.ue7.Number.the-variants.{Value, Refused}
-use Rattle.bpg_numbers.specs.declared.bits.BitNumber.{BitNumber}
-use Rattle.bpg_numbers.specs.declared.bits.BitNumber.the-variants.{Missing}
 
 -- the number and the offset after it; or the refusal's number and place
 abbrev pub numberOutcome : Number → Outcome (ℕ × ℕ)
 numberOutcome (Value v p) = ok (v, p .0)
 numberOutcome (Refused s p) = error s (p .0)
-
--- refusal 15, at the item that the number stands in
-abbrev pub bitOutcome : (item : ℕ) → BitNumber → Outcome (ℕ × ℕ)
-bitOutcome i (BitNumber.Value v p) = ok (v, p .0)
-bitOutcome i Missing = error 15 i

@@ -1,5 +1,3 @@
--- The numbers of a BPG file (document 01, "Numbers in the file") as codecs, and what the calls' answers say.
+-- The numbers of a BPG file that are coded in bytes (document 01, "Numbers in the file") as a codec, and what the calls' answers say.
 pub mod Ue7
-pub mod BitNumbers
-pub mod BitBuffer
 pub mod Answers

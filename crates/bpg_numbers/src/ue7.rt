@@ -1,7 +1,7 @@
 // The number code ue7(n): groups of seven bits, the high group first; a byte's top bit is 1 on all but the last.
 // Only the shortest form is taken.
-use crate::arithmetic::remaining;
-use crate::position::BytePos;
+use bpg_bytes::BytePos;
+use bpg_bytes::arithmetic::remaining;
 ghost use mathlib.Core.Path.{_≡_};
 ghost use Prim.Native.Nat.{min, _-_, _^_, _<_};
 ghost use lib.ListN.{length, drop};

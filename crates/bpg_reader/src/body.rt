@@ -1,5 +1,6 @@
 // What follows the head of a file: the extension block, the HEVC headers and the data.
 use crate::answer;
+use bpg_bytes::BytePos;
 use bpg_entries::block;
 use bpg_entries::block::Block;
 use bpg_format::Reading;
@@ -7,7 +8,6 @@ use bpg_format::has_alpha;
 use bpg_format::reading_refused;
 use bpg_head::head::Head;
 use bpg_header::headers;
-use bpg_numbers::BytePos;
 ghost use mathlib.Core.Path.{_≡_};
 ghost use mathlib.Core.Bool.{not, _||_};
 ghost use Prim.Native.Nat.{_≤_};

@@ -1,6 +1,6 @@
 // A line of text, gathered part by part.
-use bpg_numbers::BytePos;
-use bpg_numbers::buffer;
+use bpg_bytes::BytePos;
+use bpg_bytes::buffer;
 ghost use mathlib.Core.Path.{_≡_};
 ghost use mathlib.Core.List.{[]};
 ghost use Prim.Native.Nat.{_≤_};

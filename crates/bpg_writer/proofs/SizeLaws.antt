@@ -10,9 +10,9 @@ use Rattle.bpg_codec.specs.Lawful.{All}
 use Rattle.bpg_codec.specs.Bits.{bytesFor, padded}
 use Rattle.bpg_codec.proofs.Packed.{length-padded}
 use Rattle.bpg_numbers.specs.Ue7.{ue7Bytes}
-use Rattle.bpg_numbers.specs.declared.bit_buffer.BitBuffer.{BitBuffer}
-use Rattle.bpg_numbers.specs.BitBuffer.{bufferBytes}
-use Rattle.bpg_numbers.proofs.BitBufferLaws.{gathered-fits, gathered-bytes}
+use Rattle.bpg_bit_buffer.specs.declared.BitBuffer.{BitBuffer}
+use Rattle.bpg_bit_buffer.specs.BitBuffer.{bufferBytes}
+use Rattle.bpg_bit_buffer.proofs.BitBufferLaws.{gathered-fits, gathered-bytes}
 use Rattle.bpg_format.specs.declared.record.Entry.{Entry}
 use Rattle.bpg_format.specs.declared.record.Header.{Header}
 use Rattle.bpg_format.specs.declared.record.Record.{Record}

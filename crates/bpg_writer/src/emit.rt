@@ -1,11 +1,10 @@
 // Writing the parts of a file, each at its place in a buffer that is known to hold it.
+use bpg_bit_buffer::BitBuffer;
+use bpg_bytes::BytePos;
+use bpg_bytes::buffer;
 use bpg_format::Entry;
 use bpg_format::Range;
 use bpg_format::Record;
-use bpg_numbers::BytePos;
-use bpg_numbers::bit_buffer;
-use bpg_numbers::bit_buffer::BitBuffer;
-use bpg_numbers::buffer;
 use bpg_numbers::ue7;
 ghost use mathlib.Core.Path.{_≡_};
 ghost use Prim.Native.Nat.{_+_, _≤_, _<_};
@@ -131,7 +130,7 @@ fn header(out: &mut [u8], at: BytePos, present: bool, bits: BitBuffer) -> BytePo
     }
     let size = (bits.len.0 + 7) / 8;
     let p = ue7::write(out, at, size as u32);
-    bit_buffer::write(out, p, bits)
+    bpg_bit_buffer::write(out, p, bits)
 }
 
 // The headers and the data.

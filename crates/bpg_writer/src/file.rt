@@ -2,6 +2,7 @@
 use crate::emit;
 use crate::layout;
 use crate::layout::Layout;
+use bpg_bit_buffer::BitBuffer;
 use bpg_check::judge;
 use bpg_encode::header;
 use bpg_format::Header;
@@ -10,8 +11,6 @@ use bpg_format::Record;
 use bpg_format::Written;
 use bpg_format::has_alpha;
 use bpg_format::written_refused;
-use bpg_numbers::bit_buffer;
-use bpg_numbers::bit_buffer::BitBuffer;
 ghost use mathlib.Core.Path.{_≡_};
 ghost use Prim.Native.Nat.{_+_, _≤_};
 ghost use lib.ListN.{length as count};
@@ -28,7 +27,7 @@ fn encoded(present: bool, header: Header) -> BitBuffer
     ensures { λ r. ⌜ Encoded present header r ⌝ }
 {
     if !present {
-        return bit_buffer::none();
+        return bpg_bit_buffer::none();
     }
     header::encode(header)
 }

@@ -4,7 +4,7 @@ use native.Mathlib.Omega.{arith}
 use lib.ListN.{length, length-map}
 use Rattle.bpg_format.specs.Write.{headerZero}
 use Rattle.bpg_format.proofs.record.Header as header-type
-use Rattle.bpg_check.proofs.AbsentLaws.{or-on, or-off}
+use Rattle.bpg_rules.proofs.AbsentLaws.{or-on, or-off}
 use Rattle.bpg_check.proofs.ConsistentLaws.{header-at}
 use borrow.Author.Needs.{needs}
 use Rattle.bpg_check.proofs.consistent.alpha_fits.Statement.{statement}

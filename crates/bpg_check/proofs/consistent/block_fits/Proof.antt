@@ -2,7 +2,7 @@
 use mathlib.Core.Path.{_≡_, sym, _∙_}
 use lib.ListN.{length, length-map}
 use Rattle.bpg_format.proofs.record.Entry as entry-type
-use Rattle.bpg_check.proofs.AbsentLaws.{or-on, or-off}
+use Rattle.bpg_rules.proofs.AbsentLaws.{or-on, or-off}
 use Rattle.bpg_check.proofs.ConsistentLaws.{none-used}
 use Rattle.bpg_check.proofs.consistent.block_fits.Statement.{statement}
 use Rattle.bpg_check.proofs.consistent.block_fits.Tie as tie

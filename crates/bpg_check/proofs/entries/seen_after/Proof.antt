@@ -1,6 +1,6 @@
 -- `entries::seen_after` meets its contract. Assumes nothing.
 use mathlib.Core.Path.{refl}
-use Rattle.bpg_check.proofs.AbsentLaws.{or-on, or-off}
+use Rattle.bpg_rules.proofs.AbsentLaws.{or-on, or-off}
 use Rattle.bpg_check.proofs.entries.seen_after.Statement.{statement}
 use Rattle.bpg_check.proofs.entries.seen_after.Tie as tie
 

@@ -5,7 +5,7 @@ use mathlib.Core.List.{[], _∷_}
 use mir.Val.{boolByte}
 use borrow.Author.Needs.{needs}
 use Rattle.bpg_codec.specs.Bits.{bits}
-use Rattle.bpg_numbers.specs.BitBuffer.{appended}
+use Rattle.bpg_bit_buffer.specs.BitBuffer.{appended}
 use Rattle.bpg_encode.proofs.AddingLaws.{added}
 use Rattle.bpg_encode.proofs.fields.add_flag.Statement.{statement}
 use Rattle.bpg_encode.proofs.fields.add_flag.Tie as tie

@@ -7,7 +7,7 @@ use native.Mathlib.Omega.{arith}
 use lib.ListN.{length, take, getD, length-map}
 use lib.Seq.{take-all, take-suc}
 use borrow.Author.Needs.{needs}
-use Rattle.bpg_numbers.specs.declared.bit_buffer.BitBuffer.{BitBuffer}
+use Rattle.bpg_bit_buffer.specs.declared.BitBuffer.{BitBuffer}
 use Rattle.bpg_encode.specs.Adding.{Added}
 use Rattle.bpg_encode.proofs.AddingLaws.{added-nothing, added-then}
 use Rattle.bpg_encode.proofs.range_flags.add_all.Statement.{statement}

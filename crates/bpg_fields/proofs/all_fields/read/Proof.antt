@@ -7,7 +7,7 @@ use native.Mathlib.Omega.{arith}
 use Rattle.bpg_codec.specs.Outcome.{Outcome, ok, error}
 use Rattle.bpg_codec.specs.Codec.{decodeAt}
 use Rattle.bpg_codec.proofs.Select.{select-false}
-use Rattle.bpg_numbers.specs.BitNumbers.{regionBits}
+use Rattle.bpg_bits.specs.BitNumbers.{regionBits}
 use Rattle.bpg_format.specs.declared.record.Header.{Header}
 use Rattle.bpg_format.specs.Zero.{zeroHeader}
 use Rattle.bpg_format.specs.FileCodec.{oneBit, optional, SizeFields, sizeFields, PcmFields, pcmFields, noPcm}

@@ -5,8 +5,8 @@ use mathlib.Core.List.{List}
 use Prim.Native.Nat.{ℕ}
 use Rattle.bpg_codec.specs.Outcome.{ok}
 use Rattle.bpg_codec.specs.Codec.{decodeAt}
-use Rattle.bpg_numbers.specs.BitNumbers.{regionBits, expGolomb}
-use Rattle.bpg_numbers.specs.Answers.{bitOutcome}
+use Rattle.bpg_bits.specs.BitNumbers.{regionBits, expGolomb}
+use Rattle.bpg_bits.specs.Answers.{bitOutcome}
 use Rattle.bpg_fields.proofs.FieldLaws.{codes-at}
 use borrow.Author.Needs.{needs}
 use Rattle.bpg_fields.proofs.fields.read_codes.Statement.{statement}

@@ -1,6 +1,6 @@
 -- `fields::read_flag` meets its contract: one bit, as a flag. Assumes nothing.
 use mathlib.Core.Path.{sym, ap, _∙_}
-use Rattle.bpg_numbers.specs.Answers.{bitOutcome}
+use Rattle.bpg_bits.specs.Answers.{bitOutcome}
 use Rattle.bpg_fields.proofs.FieldLaws.{flag-at}
 use borrow.Author.Needs.{needs}
 use Rattle.bpg_fields.proofs.fields.read_flag.Statement.{statement}

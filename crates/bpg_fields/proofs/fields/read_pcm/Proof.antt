@@ -5,7 +5,7 @@ use mathlib.Core.List.{List}
 use Prim.Native.Nat.{ℕ}
 use Rattle.bpg_codec.specs.Outcome.{ok}
 use Rattle.bpg_codec.specs.Codec.{decodeAt}
-use Rattle.bpg_numbers.specs.BitNumbers.{regionBits}
+use Rattle.bpg_bits.specs.BitNumbers.{regionBits}
 use Rattle.bpg_fields.specs.Fields.{codePair, depthPair, flagOutcome, pairOutcome}
 use Rattle.bpg_fields.proofs.FieldLaws.{pcm-at}
 use borrow.Author.Needs.{needs}

@@ -5,8 +5,8 @@ use mathlib.Core.List.{List}
 use Prim.Native.Nat.{ℕ}
 use Rattle.bpg_codec.specs.Outcome.{ok}
 use Rattle.bpg_codec.specs.Codec.{decodeAt}
-use Rattle.bpg_numbers.specs.BitNumbers.{regionBits}
-use Rattle.bpg_numbers.specs.Answers.{bitOutcome}
+use Rattle.bpg_bits.specs.BitNumbers.{regionBits}
+use Rattle.bpg_bits.specs.Answers.{bitOutcome}
 use Rattle.bpg_fields.specs.Fields.{codePair, pairOutcome}
 use Rattle.bpg_fields.proofs.FieldLaws.{sizes-at}
 use borrow.Author.Needs.{needs}

@@ -3,7 +3,7 @@ use Prim.Native.Nat.{_^_}
 use native.Mathlib.Omega.{arith}
 use lib.ListN.{take, length-take}
 use Rattle.bpg_codec.proofs.Bits.{length-unpack}
-use Rattle.bpg_numbers.specs.BitNumbers.{regionBits}
+use Rattle.bpg_bits.specs.BitNumbers.{regionBits}
 use Rattle.bpg_fields.proofs.SizeLaws.{five-found, same-first}
 use borrow.Author.Needs.{needs}
 use Rattle.bpg_fields.proofs.sizes.read.Statement.{statement}

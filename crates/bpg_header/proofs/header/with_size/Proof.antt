@@ -4,7 +4,7 @@ use mathlib.Core.Bool.{true}
 use Prim.Native.Nat.{_≤_}
 use lib.ListN.{length, drop}
 use borrow.Author.Tests.{not-true, not-false}
-use Rattle.bpg_numbers.specs.BitNumbers.{regionBits}
+use Rattle.bpg_bits.specs.BitNumbers.{regionBits}
 use Rattle.bpg_format.specs.Limits.{maxFile}
 use Rattle.bpg_header.specs.Headers.{isPadding}
 use Rattle.bpg_header.proofs.HeaderLaws.{field-missing, not-padded, forbidden, rule-broken, header-read}

@@ -6,8 +6,8 @@ use native.Mathlib.Omega.{arith}
 use lib.ListN.{length, take, length-take}
 use lib.Pow.{pow-pos}
 use Rattle.bpg_codec.proofs.Bits.{length-unpack}
-use Rattle.bpg_numbers.specs.BitNumbers.{regionBits}
-use Rattle.bpg_numbers.proofs.Shifts.{one-shifted}
+use Rattle.bpg_bits.specs.BitNumbers.{regionBits}
+use Rattle.bpg_codec.proofs.Shifts.{one-shifted}
 use Rattle.bpg_header.proofs.PaddingLaws.{none-left, many-left, decided}
 use borrow.Author.Needs.{needs}
 use Rattle.bpg_header.proofs.trailing.is_padding.Statement.{statement}

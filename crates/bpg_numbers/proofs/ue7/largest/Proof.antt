@@ -4,7 +4,7 @@ use mathlib.Core.Path.{_≡_}
 use native.Mathlib.Omega.{arith}
 use lib.Pow.{pow-pos, pow-mono}
 use borrow.Author.Needs.{needs}
-use Rattle.bpg_numbers.proofs.Shifts.{one-shifted}
+use Rattle.bpg_codec.proofs.Shifts.{one-shifted}
 use Rattle.bpg_numbers.proofs.ue7.largest.Statement.{statement}
 use Rattle.bpg_numbers.proofs.ue7.largest.Tie as tie
 

@@ -4,7 +4,7 @@ use Prim.Native.Nat.{_+_, _-_, _*_, _%_, _^_, _≤_}
 use native.Mathlib.Nat.{div-mul-le-self}
 use native.Mathlib.Omega.{arith}
 use lib.Pow.{pow-pos, pow-mono}
-use Rattle.bpg_numbers.proofs.Shifts.{one-shifted}
+use Rattle.bpg_codec.proofs.Shifts.{one-shifted}
 use borrow.Author.Needs.{needs}
 use Rattle.bpg_reader.proofs.answer.coded_size.Statement.{statement}
 use Rattle.bpg_reader.proofs.answer.coded_size.Tie as tie

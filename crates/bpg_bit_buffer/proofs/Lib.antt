@@ -1,0 +1,2 @@
+-- The laws of the bit buffer.
+pub mod BitBufferLaws

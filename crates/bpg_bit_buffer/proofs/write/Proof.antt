@@ -1,0 +1,70 @@
+-- `write` meets its contract: as many bytes as the bits take, of eight. Assumes nothing.
+use mathlib.Core.Path.{_≡_, sym, ap}
+use mathlib.Core.List.{List, _++_}
+use Prim.Native.Nat.{ℕ, min, _+_, _-_, _/_}
+use native.Mathlib.Omega.{arith}
+use lib.ListN.{length, take}
+use lib.Seq.{length-take-le}
+use borrow.Author.Needs.{needs}
+use Rattle.bpg_codec.specs.Bits.{bits, zeros}
+use Rattle.bpg_codec.proofs.Bits.{length-bits}
+use Rattle.bpg_bit_buffer.specs.declared.BitBuffer.{BitBuffer}
+use Rattle.bpg_bit_buffer.specs.BitBuffer.{bigEndian, bufferBytes}
+use Rattle.bpg_bit_buffer.proofs.BitBufferLaws.{length-bigEndian, first-bytes}
+use Rattle.bpg_bit_buffer.proofs.write.Statement.{statement}
+use Rattle.bpg_bit_buffer.proofs.write.Tie as tie
+
+bytes-are : (b : BitBuffer) (n v : ℕ) (l : List ℕ) → n ≡ min (b .len .0) 64 → bits 64 v ≡ bits n (b .bits) ++ zeros (64 - n) → l ≡ bigEndian 8 v
+    → take ((n + 7) / 8) l ≡ bufferBytes b
+bytes-are b n v l e s f =
+    let k = first-bytes (bits n (b .bits)) v (rw length-bits (omega arith)) (rw length-bits s) in
+    rw (f, ← e) (rw length-bits at k)
+
+least-requires : tie.Need-least-requires
+least-requires c κs = search needs
+
+left-aligned-requires : tie.Need-left-aligned-requires
+left-aligned-requires c κs = search needs
+
+big-endian-requires : tie.Need-big-endian-requires
+big-endian-requires c κs = search needs
+
+add-bytes : tie.Need-add-bytes
+add-bytes c = search needs
+
+array-share-prefix-bytes : tie.Need-array-share-prefix-bytes
+array-share-prefix-bytes c = search needs
+
+slice-aggregate-write : tie.Need-slice-aggregate-write
+slice-aggregate-write c =
+    let b = c .before .before in
+    sym (length-take-le _ _ (omega (arith, b .before .before .least .ensures, ap length (b .big-endian .ensures), length-bigEndian 8 (b .before .left-aligned .result))))
+
+write-requires : tie.Need-write-requires
+write-requires c κs = search needs
+
+same-length : tie.Need-same-length
+same-length c = search needs
+
+returns : tie.Need-returns
+returns c =
+    let w = c .before .before in
+    let b = w .before .before .before in
+    let l = b .before .before in
+    let st = l .before .before in
+    let e = bytes-are (st .args .b) (l .least .result) (b .before .left-aligned .result) (b .big-endian .result) (l .least .ensures) (b .before .left-aligned .ensures) (b .big-endian .ensures) in
+    rw (← e) (w .write .ensures)
+
+pub write-spec : {M : Type 1} → statement M
+write-spec =
+    tie.close
+    (tie.spec
+    least-requires
+    left-aligned-requires
+    big-endian-requires
+    add-bytes
+    array-share-prefix-bytes
+    slice-aggregate-write
+    write-requires
+    same-length
+    returns)

@@ -1,0 +1,2 @@
+-- The bits of a header, gathered to be written.
+pub mod BitBuffer

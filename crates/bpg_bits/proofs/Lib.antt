@@ -1,0 +1,4 @@
+-- The laws of u(n) and ue(v), each proved once over the width.
+pub mod BitNumberLaws
+pub mod Refusals
+pub mod Advances

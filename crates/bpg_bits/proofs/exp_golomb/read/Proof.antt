@@ -1,0 +1,109 @@
+-- `exp_golomb::read` meets its contract. The invariant: counting on from the next bit gives what counting from the first does.
+-- Assumes nothing.
+use Prim.Native.Nat.{ℕ, _+_, _-_, _^_, _≤_, _<_}
+use mathlib.Core.Path.{_≡_, refl, sym, ap, _∙_}
+use mathlib.Core.Bool.{Bool, true, false}
+use mathlib.Core.List.{List, _∷_}
+use native.Mathlib.Omega.{arith}
+use lib.ListN.{length, take, drop, getD, length-take, drop-of-length-le}
+use borrow.Author.Needs.{needs}
+use Rattle.bpg_codec.specs.Outcome.{Outcome, error, located}
+use Rattle.bpg_codec.specs.Bits.{bit}
+use Rattle.bpg_codec.proofs.Bits.{bit-is-one, bit-not-one, length-unpack}
+use Rattle.bpg_codec.proofs.Lists.{drop-next}
+use Rattle.bpg_bits.specs.BitNumbers.{regionBits, prefixDecode, expGolombSuffix, expGolomb}
+use Rattle.bpg_bits.proofs.BitNumberLaws.{region-bit, prefix-end, prefix-one, prefix-zero, prefix-long}
+use Rattle.bpg_bits.proofs.exp_golomb.read.Statement.{statement}
+use Rattle.bpg_bits.proofs.exp_golomb.read.Tie as tie
+
+abbrev Inv-loop : tie.InvT-loop
+Inv-loop region end z₀ next₀ z next = (z ≤ 31) × ((i : ℕ) → prefixDecode i 0 next₀ (drop next₀ (regionBits region)) ≡ prefixDecode i z next (drop next (regionBits region)))
+
+abbrev μ-loop : tie.MeasureT-loop
+μ-loop region end z₀ next₀ z next = end - next
+
+-- ---- what each way out and each turn says of the definition
+
+module _ (start z next : ℕ) (l : List Bool) (i : ℕ) (inv : prefixDecode i 0 start (drop start l) ≡ prefixDecode i z next (drop next l)) where
+  abbrev all : Outcome (ℕ × ℕ)
+  all = located (expGolomb .decode i start (drop start l))
+
+  none : length l ≤ next → error 15 i ≡ all
+  none h = rw (inv, drop-of-length-le l h, prefix-end i z next)
+
+  module _ (h : next < length l) where
+    seen-bit : (b : Bool) → getD l next false ≡ b → prefixDecode i 0 start (drop start l) ≡ prefixDecode i z next (b ∷ drop (next + 1) l)
+    seen-bit b e = inv ∙ rw (drop-next l next false h, e)
+
+    one : getD l next false ≡ true → located (expGolombSuffix i z (next + 1) (drop (next + 1) l)) ≡ all
+    one e = rw (seen-bit true e, prefix-one i z next (drop (next + 1) l))
+
+    long : 31 ≤ z → getD l next false ≡ false → error 15 i ≡ all
+    long k e = rw (seen-bit false e, prefix-long i z next (drop (next + 1) l) k)
+
+    more : z < 31 → getD l next false ≡ false → prefixDecode i 0 start (drop start l) ≡ prefixDecode i (z + 1) (next + 1) (drop (next + 1) l)
+    more k e = seen-bit false e ∙ prefix-zero i z next (drop (next + 1) l) k
+
+-- ---- the needs
+
+-- the bit that was looked at
+seen : (c : tie.After-bit-inside Inv-loop μ-loop)
+    → c .bit-inside .result ≡ bit (getD (regionBits (c .before .before .before .before .before .args .region .now)) (c .before .before .loop .next) false)
+seen c = c .bit-inside .ensures ∙ ap bit (region-bit (c .before .before .before .before .before .args .region .now) (c .before .before .loop .next) (omega arith))
+
+count-requires : tie.Need-count-requires Inv-loop μ-loop
+count-requires c κs = search needs
+
+loop-holds : tie.Need-loop-holds Inv-loop μ-loop
+loop-holds c = (omega arith, λ i. refl)
+
+bit-inside-requires : tie.Need-bit-inside-requires Inv-loop μ-loop
+bit-inside-requires c κs =
+    let l = c .before .before .before .before .args .region .now in
+    omega (arith, length-unpack (take (2 ^ 60) l), length-take (2 ^ 60) l)
+
+add-t8 : tie.Need-add-t8 Inv-loop μ-loop
+add-t8 c = omega arith
+
+suffix-requires : tie.Need-suffix-requires Inv-loop μ-loop
+suffix-requires c κs = omega arith
+
+returns : tie.Need-returns Inv-loop μ-loop
+returns c = λ i. c .suffix .ensures i ∙ one _ _ _ _ i (c .before .before .before .before .loop .inv .1 i) (omega arith) (bit-is-one _ (sym (seen (c .before .before)) ∙ c .before .if1 .taken))
+
+returns-2 : tie.Need-returns-2 Inv-loop μ-loop
+returns-2 c = λ i. long _ _ _ _ i (c .before .before .before .before .loop .inv .1 i) (omega arith) (omega arith) (bit-not-one _ (λ e. c .before .if1 .left (seen (c .before .before) ∙ e)))
+
+add-z : tie.Need-add-z Inv-loop μ-loop
+add-z c = omega arith
+
+add-next : tie.Need-add-next Inv-loop μ-loop
+add-next c = omega arith
+
+loop-less : tie.Need-loop-less Inv-loop μ-loop
+loop-less c = omega arith
+
+loop-again : tie.Need-loop-again Inv-loop μ-loop
+loop-again c = (omega arith, λ i. more _ _ _ _ i (c .before .before .before .before .loop .inv .1 i) (omega arith) (omega arith) (bit-not-one _ (λ e. c .before .if1 .left (seen (c .before .before) ∙ e))))
+
+returns-3 : tie.Need-returns-3 Inv-loop μ-loop
+returns-3 c = λ i. none _ _ _ _ i (c .before .loop .inv .1 i) (omega arith)
+
+pub read-spec : {M : Type 1} → statement M
+read-spec =
+    tie.close
+    (tie.spec
+    Inv-loop
+    μ-loop
+    count-requires
+    loop-holds
+    bit-inside-requires
+    add-t8
+    suffix-requires
+    returns
+    returns-2
+    add-z
+    add-next
+    loop-less
+    loop-again
+    returns-3)

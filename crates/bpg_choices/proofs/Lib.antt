@@ -1,0 +1,2 @@
+-- Laws of the record with the canonical choices.
+pub mod RecordLaws

@@ -1,0 +1,63 @@
+-- `loop_size` meets its contract. Assumes nothing.
+use Prim.Native.Nat.{_≤_}
+use native.Mathlib.Omega.{arith}
+use Rattle.bpg_numbers.proofs.Ue7Laws.{size-most}
+use borrow.Author.Needs.{needs}
+use Rattle.bpg_choices.proofs.loop_size.Statement.{statement}
+use Rattle.bpg_choices.proofs.loop_size.Tie as tie
+
+-- each of the numbers takes few bytes
+small : (c : tie.After-size3) → (c .before .before .before .before .size .result ≤ 10) × (c .before .before .size2 .result ≤ 10) × (c .size3 .result ≤ 10)
+small c =
+    let s2 = c .before .before in
+    let s1 = s2 .before .before in
+    let r = s1 .before .before .args .«record» in (
+      omega (arith, s1 .size .ensures, size-most (r .«loop_count») (omega (arith, s1 .before .struct-known .given))),
+      omega (arith, s2 .size2 .ensures, size-most (r .«frame_period_num») (omega (arith, s2 .before .struct-known2 .given))),
+      omega (arith, c .size3 .ensures, size-most (r .«frame_period_den») (omega (arith, c .before .struct-known3 .given))),
+    )
+
+cast-size : tie.Need-cast-size
+cast-size c = search needs
+
+size-requires : tie.Need-size-requires
+size-requires c κs = search needs
+
+cast-size-2 : tie.Need-cast-size-2
+cast-size-2 c = search needs
+
+size-requires-2 : tie.Need-size-requires-2
+size-requires-2 c κs = search needs
+
+cast-size-3 : tie.Need-cast-size-3
+cast-size-3 c = search needs
+
+size-requires-3 : tie.Need-size-requires-3
+size-requires-3 c κs = search needs
+
+add-result : tie.Need-add-result
+add-result c = omega (arith, small c .0, small c .1)
+
+add-result-2 : tie.Need-add-result-2
+add-result-2 c = omega (arith, small c .0, small c .1, small c .2)
+
+cast-result : tie.Need-cast-result
+cast-result c = omega (arith, small c .0, small c .1, small c .2)
+
+returns : tie.Need-returns
+returns c = search needs
+
+pub loop-size-spec : {M : Type 1} → statement M
+loop-size-spec =
+    tie.close
+    (tie.spec
+    cast-size
+    size-requires
+    cast-size-2
+    size-requires-2
+    cast-size-3
+    size-requires-3
+    add-result
+    add-result-2
+    cast-result
+    returns)

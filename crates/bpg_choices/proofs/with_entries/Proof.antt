@@ -1,0 +1,100 @@
+-- `with_entries` meets its contract: the first entries are changed. Assumes nothing.
+use mathlib.Core.Path.{_≡_, refl, sym, ap, _∙_}
+use mathlib.Core.List.{List}
+use Prim.Native.Nat.{ℕ, suc, _+_, _-_, _≤_}
+use native.Mathlib.Omega.{arith}
+use lib.ListN.{length, getD, set, length-map}
+use borrow.Author.Needs.{needs}
+use Rattle.bpg_format.specs.declared.record.Entry.{Entry}
+use Rattle.bpg_format.specs.declared.record.Record.{Record}
+use Rattle.bpg_format.specs.Zero.{zeroEntry}
+use Rattle.bpg_format.proofs.record.Entry as entry-type
+use Rattle.bpg_choices.specs.Records.{canonicalEntry, changed, recordWith}
+use Rattle.bpg_choices.proofs.RecordLaws.{change-next, change-most}
+use Rattle.bpg_choices.proofs.with_entries.Statement.{statement}
+use Rattle.bpg_choices.proofs.with_entries.Tie as tie
+
+-- the record with these entries
+abbrev withEntries : Record → List Entry → Record
+withEntries r es = recordWith (r .«extension_present_flag») (r .«explicit_length») es (r .headers) r
+
+abbrev Inv-loop : tie.InvT-loop
+Inv-loop size used all₀ k₀ all k = (k ≤ used) × (used ≤ 16) × (all ≡ withEntries all₀ (changed (canonicalEntry size) k (all₀ .entries)))
+
+abbrev μ-loop : tie.MeasureT-loop
+μ-loop size used all₀ k₀ all k = used - k
+
+-- the array has sixteen entries
+sixteen : (c : tie.Start Inv-loop μ-loop) → length (c .args .«record» .entries) ≡ 16
+sixteen c = sym (length-map (c .args .«record» .entries) (entry-type.the-field .into)) ∙ c .good .0 .1 .1 .1 .1 .1 .1 .1 .1 .1 .1 .1 .1 .1 .1 .0 .1 .0 .1
+
+used-entries-requires : tie.Need-used-entries-requires Inv-loop μ-loop
+used-entries-requires c κs = search needs
+
+loop-holds : tie.Need-loop-holds Inv-loop μ-loop
+loop-holds c = (omega arith, omega (arith, c .used-entries .ensures), refl)
+
+mul-entry : tie.Need-mul-entry Inv-loop μ-loop
+mul-entry c = search needs
+
+element-copy-out-entry : tie.Need-element-copy-out-entry Inv-loop μ-loop
+element-copy-out-entry c = search needs
+
+canonical-entry-requires : tie.Need-canonical-entry-requires Inv-loop μ-loop
+canonical-entry-requires c κs = search needs
+
+mul-t8 : tie.Need-mul-t8 Inv-loop μ-loop
+mul-t8 c = search needs
+
+element-set-from-all : tie.Need-element-set-from-all Inv-loop μ-loop
+element-set-from-all c = search needs
+
+add-k : tie.Need-add-k Inv-loop μ-loop
+add-k c = search needs
+
+loop-less : tie.Need-loop-less Inv-loop μ-loop
+loop-less c = omega (arith, c .before .before .loop-test .taken)
+
+loop-again : tie.Need-loop-again Inv-loop μ-loop
+loop-again c =
+    let l = c .before .before .before .loop in
+    let s = c .before .before .before .before .before in
+    let f = canonicalEntry (s .args .size) in
+    let es = s .args .«record» .entries in
+    let taken = c .before .before .loop-test .taken in
+    let n : suc (l .k) ≡ l .k + 1 = omega arith in (
+      omega (arith, taken),
+      l .inv .1,
+      ap (λ (r : Record). withEntries r (set (r .entries) (l .k) (c .canonical-entry .result))) (l .inv .2)
+          ∙ ap (λ (e : Entry). withEntries (s .args .«record») (set (changed f (l .k) es) (l .k) e))
+          (c .canonical-entry .ensures ∙ ap (λ (r : Record). f (getD (r .entries) (l .k) zeroEntry)) (l .inv .2))
+          ∙ ap (withEntries (s .args .«record»)) (change-next f es (l .k) zeroEntry (omega (arith, taken, l .inv .1, sixteen s)) ∙ ap (λ (m : ℕ). changed f m es) n),
+    )
+
+returns : tie.Need-returns Inv-loop μ-loop
+returns c =
+    let l = c .before .loop in
+    let u = c .before .before in
+    let r = u .before .args .«record» in
+    l .inv .2
+    ∙ ap (withEntries r)
+    (change-most (canonicalEntry (u .before .args .size)) (r .entries) (l .k) (r .«entry_count»)
+    (omega (arith, l .inv .0, c .loop-test .left, u .used-entries .ensures, sixteen (u .before))))
+
+pub with-entries-spec : {M : Type 1} → statement M
+with-entries-spec =
+    tie.close
+    (tie.spec
+    Inv-loop
+    μ-loop
+    used-entries-requires
+    loop-holds
+    mul-entry
+    element-copy-out-entry
+    canonical-entry-requires
+    mul-t8
+    element-set-from-all
+    add-k
+    loop-less
+    loop-again
+    returns)

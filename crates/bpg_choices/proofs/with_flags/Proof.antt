@@ -1,0 +1,57 @@
+-- `with_flags` meets its contract. Assumes nothing.
+use mathlib.Core.Path.{_≡_, sym, ap, ap₂, _∙_}
+use mathlib.Core.Bool.{false, not}
+use mathlib.Core.List.{List, []}
+use lib.Dec.{eqb}
+use lib.ListN.{length, set, length-map}
+use Rattle.bpg_format.specs.declared.record.Header.{Header}
+use Rattle.bpg_format.specs.Zero.{zeroHeader}
+use Rattle.bpg_format.proofs.record.Header as header-type
+use Rattle.bpg_fields.specs.Fields.{withFlags}
+use Rattle.bpg_choices.specs.Records.{canonicalHeader, recordWith}
+use Rattle.bpg_choices.proofs.RecordLaws.{change-both}
+use borrow.Author.Needs.{needs}
+use Rattle.bpg_choices.proofs.with_flags.Statement.{statement}
+use Rattle.bpg_choices.proofs.with_flags.Tie as tie
+
+-- the array has two headers
+two : (s : tie.Start) → length (s .args .t1 .headers) ≡ 2
+two s = sym (length-map (s .args .t1 .headers) (header-type.the-field .into)) ∙ s .good .0 .1 .1 .1 .1 .1 .1 .1 .1 .1 .1 .1 .1 .1 .1 .1 .1 .1 .1 .0 .1 .0 .1
+
+element-copy-out-alpha : tie.Need-element-copy-out-alpha
+element-copy-out-alpha c = search needs
+
+element-copy-out-color : tie.Need-element-copy-out-color
+element-copy-out-color c = search needs
+
+canonical-header-requires : tie.Need-canonical-header-requires
+canonical-header-requires c κs = search needs
+
+element-set-from-all : tie.Need-element-set-from-all
+element-set-from-all c = search needs
+
+canonical-header-requires-2 : tie.Need-canonical-header-requires-2
+canonical-header-requires-2 c κs = search needs
+
+element-set-from-all-2 : tie.Need-element-set-from-all-2
+element-set-from-all-2 c = search needs
+
+returns : tie.Need-returns
+returns c =
+    let s = c .before .before .before .before in
+    let r = s .args .t1 in
+    let d = withFlags zeroHeader [] in
+    ap (λ (l : List Header). recordWith (not (eqb (r .«entry_count») 0)) false (r .entries) l r)
+    (ap₂ (λ (x y : Header). set (set (r .headers) 0 x) 1 y) (c .before .canonical-header .ensures) (c .canonical-header2 .ensures) ∙ change-both canonicalHeader (r .headers) d (two s))
+
+pub with-flags-spec : {M : Type 1} → statement M
+with-flags-spec =
+    tie.close
+    (tie.spec
+    element-copy-out-alpha
+    element-copy-out-color
+    canonical-header-requires
+    element-set-from-all
+    canonical-header-requires-2
+    element-set-from-all-2
+    returns)
