@@ -1,26 +1,17 @@
--- Document 01's lines ("The desk's examples"), by computation. Assumes nothing.
+-- For the bytes of file A `bpgshow` prints exactly document 01's line. Assumes nothing.
 use mathlib.Core.Path.{_≡_, refl, ap, _∙_}
-use Prim.Native.Nat.{_^_, _-_}
 use Rattle.bpg_codec.specs.Select.{select}
-use Rattle.bpg_format.specs.Zero.{refusedReading}
 use Rattle.bpg_format.specs.Records.{readFile}
-use Rattle.bpg_format.specs.Examples.{fileA, readingA, readingC}
+use Rattle.bpg_format.specs.Examples.{fileA}
 use Rattle.bpg_format.proofs.Examples.{answers}
-use Rattle.bpg_summary.specs.Text.{ascii, digits, decimal}
-use Rattle.bpg_summary.specs.Summary.{lineOf, summaryOf}
+use Rattle.bpg_line.specs.Text.{ascii}
+use Rattle.bpg_line.specs.Line.{lineOf}
+use Rattle.bpg_line.proofs.Examples.{lines}
+use Rattle.bpg_summary.specs.Summary.{summaryOf}
 
-pub record Lines : Type 0 where
-  pub a-line : lineOf readingA ≡ ascii "size 8x542 format 1 depth 8 space 0 alpha none range full still ext 0 data 2\n"
-  pub c-line : lineOf readingC ≡ ascii "size 8x542 format 1 depth 8 space 0 alpha none range full animated ext 1 data 2\n"
-  pub refused-line : lineOf (refusedReading 3 0) ≡ ascii "refused 3 at 0\n"
-  pub smallest : decimal 0 ≡ ascii "0"
-  pub largest : decimal (2 ^ 64 - 1) ≡ ascii "18446744073709551615"
-  pub a-read : summaryOf fileA ≡ lineOf (readFile fileA)
+a-read : summaryOf fileA ≡ lineOf (readFile fileA)
+unfolding select
+a-read = refl
 
-pub lines : Lines
-unfolding ascii digits decimal select
-lines = record { a-line = refl; c-line = refl; refused-line = refl; smallest = refl; largest = refl; a-read = refl }
-
--- for the bytes of file A `bpgshow` prints exactly this line
 pub shows-a : summaryOf fileA ≡ ascii "size 8x542 format 1 depth 8 space 0 alpha none range full still ext 0 data 2\n"
-shows-a = lines .a-read ∙ ap lineOf (answers .a-reads) ∙ lines .a-line
+shows-a = a-read ∙ ap lineOf (answers .a-reads) ∙ lines .a-line

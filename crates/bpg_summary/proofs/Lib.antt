@@ -1,5 +1,3 @@
--- The laws of decimal numbers, of the line buffer and of the line; examples.
-pub mod DecimalLaws
-pub mod LineBufferLaws
+-- The cases of the summary; an example.
 pub mod SummaryLaws
 pub mod Examples

@@ -1,112 +1,16 @@
--- The cases of the summary and of the line, and how long the line is: every line fits the line buffer. Assumes nothing.
+-- The cases of the summary. Assumes nothing.
 use mathlib.Core.Path.{_≡_}
-use mathlib.Core.Bool.{Bool, true, false}
 use mathlib.Core.List.{List}
-use Prim.Native.Nat.{ℕ, _+_, _^_, _≤_, _<_}
-use native.Mathlib.Decide.{ℕ-discrete}
-use native.Mathlib.Omega.{arith}
-use lib.ListN.{length, length-append}
-use mir.Val.{WT}
-use denote.Struct.Laws.{val}
-use borrow.Author.Tests.{eq-eqb, ne-eqb, lt-ltb, le-ltb}
+use Prim.Native.Nat.{ℕ, _≤_, _<_}
+use lib.ListN.{length}
+use borrow.Author.Tests.{lt-ltb, le-ltb}
 use Rattle.bpg_codec.proofs.Select.{select-true, select-false}
-use Rattle.bpg_format.proofs.record.Record.{the-type}
-use Rattle.bpg_format.proofs.record.Record.Laws.{the-laws}
-use Rattle.bpg_format.specs.declared.record.Record.{Record}
-use Rattle.bpg_format.specs.declared.answer.Reading.{Reading}
 use Rattle.bpg_format.specs.Records.{readFile}
-use Rattle.bpg_summary.specs.Text.{ascii}
-use Rattle.bpg_summary.specs.Summary.{alphaText, rangeText, animationText, acceptedLine, refusedLine, lineOf, summaryLimit, summaryOf}
-use Rattle.bpg_summary.specs.LineBuffer.{lineSize}
-use Rattle.bpg_summary.proofs.DecimalLaws.{decimal-most}
-
--- ---- the summary's two cases
+use Rattle.bpg_line.specs.Line.{refusedLine, lineOf}
+use Rattle.bpg_summary.specs.Summary.{summaryLimit, summaryOf}
 
 pub summary-long : (f : List ℕ) → summaryLimit < length f → summaryOf f ≡ refusedLine 1 0
 summary-long f h = select-true _ _ (lt-ltb _ _ h)
 
 pub summary-read : (f : List ℕ) → length f ≤ summaryLimit → summaryOf f ≡ lineOf (readFile f)
 summary-read f h = select-false _ _ (le-ltb _ _ h)
-
--- ---- the line's two cases
-
-pub line-accepted : (r : Reading) → r .status ≡ 0 → lineOf r ≡ acceptedLine (r .«record»)
-line-accepted r e = select-true _ _ (eq-eqb _ _ e)
-
-pub line-refused : (r : Reading) → (r .status ≡ 0 → ⊥) → lineOf r ≡ refusedLine (r .status) (r .offset)
-line-refused r e = select-false _ _ (ne-eqb _ _ e)
-
--- ---- how long it is
-
-alpha-most : (a b : Bool) → length (alphaText a b) ≤ 20
-unfolding ascii
-alpha-most false false = omega arith
-alpha-most true false = omega arith
-alpha-most true true = omega arith
-alpha-most false true = omega arith
-
-range-most : (b : Bool) → length (rangeText b) ≤ 14
-unfolding ascii
-range-most false = omega arith
-range-most true = omega arith
-
-animation-most : (b : Bool) → length (animationText b) ≤ 9
-unfolding ascii
-animation-most false = omega arith
-animation-most true = omega arith
-
--- the numbers that are printed are within their types
-pub record Printable (r : Record) : Type 0 where
-  pub width : r .«picture_width» < 2 ^ 32
-  pub height : r .«picture_height» < 2 ^ 32
-  pub format : r .«pixel_format» < 2 ^ 8
-  pub depth : r .«bit_depth_minus_8» < 2 ^ 8
-  pub space : r .«color_space» < 2 ^ 8
-  pub count : r .«entry_count» < 2 ^ 32
-  pub size : r .«data» .length < 2 ^ 32
-
--- which the fields of a record in the code are
-pub printable : (r : Record) → WT (val the-type the-laws r) → Printable r
-printable r k =
-    let sizes = k .1 .1 .1 .1 .1 .1 .1 .1 in
-    let entries = sizes .1 .1 .1 in
-    record {
-      width = sizes .0 .fits;
-      height = sizes .1 .0 .fits;
-      format = k .0 .fits;
-      depth = k .1 .1 .0 .fits;
-      space = k .1 .1 .1 .0 .fits;
-      count = entries .0 .fits;
-      size = entries .1 .1 .1 .1 .1 .1 .0 .1 .0 .fits;
-    }
-
-pub length-accepted : (r : Record) → Printable r → length (acceptedLine r) ≤ lineSize
-unfolding ascii
-length-accepted r p =
-    simp length-append
-    (omega (
-      arith,
-      decimal-most 9 (r .«picture_width») (omega (arith, p .width)),
-      decimal-most 9 (r .«picture_height») (omega (arith, p .height)),
-      decimal-most 2 (r .«pixel_format») (omega (arith, p .format)),
-      decimal-most 2 (r .«bit_depth_minus_8» + 8) (omega (arith, p .depth)),
-      decimal-most 2 (r .«color_space») (omega (arith, p .space)),
-      alpha-most (r .«alpha1_flag») (r .«alpha2_flag»),
-      range-most (r .«limited_range_flag»),
-      animation-most (r .«animation_flag»),
-      decimal-most 9 (r .«entry_count») (omega (arith, p .count)),
-      decimal-most 9 (r .«data» .length) (omega (arith, p .size)),
-    ))
-
-pub length-refused : (s o : ℕ) → s < 2 ^ 8 → o < 2 ^ 64 → length (refusedLine s o) ≤ lineSize
-unfolding ascii
-length-refused s o h k =
-    simp length-append (omega (arith, decimal-most 2 s (omega arith), decimal-most 19 o (omega arith)))
-
--- every reading whose fields are within their types has a line that fits
-pub length-line : (r : Reading) → r .status < 2 ^ 8 → r .offset < 2 ^ 64 → Printable (r .«record») → length (lineOf r) ≤ lineSize
-length-line r h k p =
-    elim (ℕ-discrete (r .status) 0) [
-      | yes e ↦ rw (line-accepted r e) (length-accepted (r .«record») p)
-      | no e ↦ rw (line-refused r e) (length-refused (r .status) (r .offset) h k)
-    ]

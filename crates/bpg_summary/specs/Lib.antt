@@ -1,4 +1,2 @@
--- What `bpgshow` prints, and the buffer in which a line is gathered.
-pub mod Text
+-- What `bpgshow` prints.
 pub mod Summary
-pub mod LineBuffer

@@ -1,5 +1,4 @@
 // Reads a file from standard input and prints its particulars in one line.
-use bpg_summary::summary;
 
 // One byte more than is shown, so that a longer file is known for one.
 const SPACE: usize = 65_537;
@@ -12,7 +11,7 @@ fn show_first(s: &[u8], n: usize) {
 
 fn show(file: &[u8]) {
     let mut line = [0u8; 160];
-    let n = summary::write(file, &mut line);
+    let n = bpg_summary::write(file, &mut line);
     show_first(&line, n);
 }
 

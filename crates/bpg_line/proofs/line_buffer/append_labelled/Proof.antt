@@ -1,0 +1,20 @@
+-- `line_buffer::append_labelled` meets its contract. Assumes nothing.
+use mathlib.Core.Path.{ap, _∙_}
+use borrow.Author.Needs.{needs}
+use Rattle.bpg_line.specs.declared.line_buffer.LineBuffer.{LineBuffer}
+use Rattle.bpg_line.specs.Text.{decimal}
+use Rattle.bpg_line.specs.LineBuffer.{appended}
+use Rattle.bpg_line.proofs.line_buffer.append_labelled.Statement.{statement}
+use Rattle.bpg_line.proofs.line_buffer.append_labelled.Tie as tie
+
+append-requires : tie.Need-append-requires
+append-requires c κs = search needs
+
+append-decimal-requires : tie.Need-append-decimal-requires
+append-decimal-requires c κs = search needs
+
+returns : tie.Need-returns
+returns c = c .append-decimal .ensures ∙ ap (λ (b : LineBuffer). appended b (decimal (c .before .before .before .args .v))) (c .before .append .ensures)
+
+pub append-labelled-spec : {M : Type 1} → statement M
+append-labelled-spec = tie.close (tie.spec append-requires append-decimal-requires returns)
