@@ -1,4 +1,4 @@
-//! Holds the proved library to an independent implementation, over a million files and records a run.
+//! Holds the proved library to an independent implementation, over two million files and records a run.
 //!
 //! `BPG_SEED` gives another run, `BPG_FILES` and `BPG_RECORDS` another number of cases. A difference fails
 //! the test and prints the case and both answers.

@@ -18,7 +18,7 @@ pub struct BitBuffer {
     pub len: BitPos,
 }
 
-pub fn none() -> BitBuffer
+pub fn empty() -> BitBuffer
     ensures { λ r. ⌜ r ≡ empty ⌝ }
 {
     BitBuffer {
@@ -28,7 +28,7 @@ pub fn none() -> BitBuffer
 }
 
 // What stands for more than 64 bits.
-fn too_many() -> BitBuffer
+fn overfull() -> BitBuffer
     ensures { λ r. ⌜ r ≡ overfull ⌝ }
 {
     BitBuffer {
@@ -43,10 +43,10 @@ pub fn append(b: BitBuffer, n: u32, v: u64) -> BitBuffer
 {
     let width = least(n as usize, 63);
     if 64 < b.len.0 {
-        return too_many();
+        return overfull();
     }
     if 64 - b.len.0 < width {
-        return too_many();
+        return overfull();
     }
     BitBuffer {
         bits: (b.bits << width) + v % (1u64 << width),

@@ -14,10 +14,8 @@ use Rattle.bpg_format.specs.declared.record.Record.{Record}
 use Rattle.bpg_format.specs.Zero.{zeroHeader}
 use Rattle.bpg_format.specs.Content.{isEmpty}
 use Rattle.bpg_format.specs.Rules.{hasLoop, noLoop}
-use Rattle.bpg_format.specs.Records.{extensionOf, usedEntries, contentOf}
+use Rattle.bpg_format.specs.Records.{extensionOf, usedEntries, contentOf, recordLoop}
 use Rattle.bpg_format.specs.Write.{absentZero, headerZero, sameLoop, consistent}
-use Rattle.bpg_fields.specs.Fields.{withFlags}
-use Rattle.bpg_check.specs.Check.{recordLoop}
 
 -- the default of an element in range is never read
 within : {A : Type 0} (l : List A) (k : ℕ) (d e : A) → k < length l → getD l k d ≡ getD l k e
@@ -25,9 +23,9 @@ within [] k d e h = absurd (omega arith)
 within (x ∷ l) zero d e h = refl
 within (x ∷ l) (suc k) d e h = within l k d e (omega arith)
 
--- what the code would read past the end has no range flags
-pub header-at : (l : List Header) (k : ℕ) → length l ≡ 2 → k < 2 → getD l k (withFlags zeroHeader []) ≡ getD l k zeroHeader
-header-at l k m h = within l k (withFlags zeroHeader []) zeroHeader (omega arith)
+-- whatever the code would read past the end
+pub header-at : (d : Header) (l : List Header) (k : ℕ) → length l ≡ 2 → k < 2 → getD l k d ≡ getD l k zeroHeader
+header-at d l k m h = within l k d zeroHeader (omega arith)
 
 pub none-used : (source : List ℕ) (es : List Entry) (n : ℕ) → length es ≡ maxEntries → eqb n 0 ≡ isEmpty (map (extensionOf source) (take n es))
 none-used source [] n h = absurd (omega arith)

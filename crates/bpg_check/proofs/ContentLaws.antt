@@ -17,10 +17,10 @@ use Rattle.bpg_format.specs.declared.record.Record.{Record}
 use Rattle.bpg_format.specs.Zero.{zeroHeader}
 use Rattle.bpg_format.specs.Rules.{hasLoop}
 use Rattle.bpg_format.specs.FileCodec.{colorSpaceAllowed}
-use Rattle.bpg_format.specs.Records.{extensionOf, usedEntries, contentOf}
+use Rattle.bpg_format.specs.Records.{extensionOf, usedEntries, contentOf, recordLoop}
 use Rattle.bpg_format.specs.Write.{checkEntries, checkHeader, checkContent}
 use Rattle.bpg_format.proofs.WritingRefusals.{AtZero, R, rule, last-rule, header-check, entries-check}
-use Rattle.bpg_check.specs.Check.{statusOf, recordLoop, checkPicture, checkAlpha, checkHeaders}
+use Rattle.bpg_check.specs.Check.{statusOf, checkPicture, checkAlpha, checkHeaders}
 use Rattle.bpg_check.proofs.StatusLaws.{stops, goes-on, guard-passes}
 
 -- ---- refusal 6

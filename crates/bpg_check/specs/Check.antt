@@ -35,9 +35,6 @@ checkStatus r source = statusOf (checkRecord r source)
 
 -- ---- the parts that functions of their own judge
 
-abbrev pub recordLoop : Record → Loop
-recordLoop r = record { count = r .«loop_count»; periodNum = r .«frame_period_num»; periodDen = r .«frame_period_den» }
-
 abbrev pub animationLoop : Animation → Loop
 animationLoop a = record { count = a .«loop_count»; periodNum = a .«frame_period_num»; periodDen = a .«frame_period_den» }
 

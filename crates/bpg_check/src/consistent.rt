@@ -13,9 +13,8 @@ ghost use Rattle.bpg_format.specs.Limits.{maxEntries};
 ghost use Rattle.bpg_format.specs.Zero.{zeroHeader};
 ghost use Rattle.bpg_format.specs.Content.{isEmpty};
 ghost use Rattle.bpg_format.specs.Rules.{hasLoop, noLoop};
-ghost use Rattle.bpg_format.specs.Records.{extensionOf, usedEntries, contentOf};
+ghost use Rattle.bpg_format.specs.Records.{extensionOf, usedEntries, contentOf, recordLoop};
 ghost use Rattle.bpg_format.specs.Write.{headerZero, sameLoop, consistent as isConsistent};
-ghost use Rattle.bpg_check.specs.Check.{recordLoop};
 
 // No entries without the extension flag.
 fn block_fits(record: Record) -> bool

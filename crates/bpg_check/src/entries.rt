@@ -13,9 +13,9 @@ ghost use Prim.Native.Nat.{ℕ, _≤_};
 ghost use lib.Dec.{eqb};
 ghost use Rattle.bpg_format.specs.Limits.{maxEntries};
 ghost use Rattle.bpg_format.specs.Rules.{hasLoop};
-ghost use Rattle.bpg_format.specs.Records.{bytesIn, extensionOf, usedEntries};
+ghost use Rattle.bpg_format.specs.Records.{bytesIn, extensionOf, usedEntries, recordLoop};
 ghost use Rattle.bpg_format.specs.Write.{inSource, entriesInSource, isZero, unusedZero, sameLoop, checkLoop, checkEntries};
-ghost use Rattle.bpg_check.specs.Check.{statusOf, recordLoop, animationLoop, checkEntry};
+ghost use Rattle.bpg_check.specs.Check.{statusOf, animationLoop, checkEntry};
 
 fn is_zero(entry: Entry) -> bool
     ensures { λ r. ⌜ r ≡ isZero entry ⌝ }

@@ -7,7 +7,7 @@ use Rattle.bpg_bit_buffer.specs.BitBuffer.{gathered}
 use Rattle.bpg_bit_buffer.specs.declared.BitBuffer.{BitBuffer}
 use Rattle.bpg_format.specs.declared.record.Header.{Header}
 
--- r has these bits after those of b
+-- where b holds gathered bits, r holds them and these after them
 pub record Added (b : BitBuffer) (l : List Bool) (r : BitBuffer) : Type 0 where
   pub gathers : (before : List Bool) → b ≡ gathered before → r ≡ gathered (before ++ l)
 

@@ -16,7 +16,7 @@ pub fn encode(header: Header) -> BitBuffer
     ensures { λ r. ⌜ r ≡ gathered (headerBits header) ⌝ }
     ensures { λ _. ⌜ ((depth : ℕ) → HevcRules depth header → length (headerBits header) ≤ 64) ⌝ }
 {
-    let sizes = fields::add_sizes(bpg_bit_buffer::none(), header);
+    let sizes = fields::add_sizes(bpg_bit_buffer::empty(), header);
     let offset = fields::add_flag(sizes, header.sample_adaptive_offset_enabled_flag);
     let pcm_flag = fields::add_flag(offset, header.pcm_enabled_flag);
     let pcm = fields::add_pcm(pcm_flag, header);

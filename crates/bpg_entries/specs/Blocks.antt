@@ -39,6 +39,6 @@ blockAnswer p (ok es) =
     }
 blockAnswer p (error s o) = refusedBlock s o
 
--- the entries from p to the end of a region, which is no longer than a file
+-- the entries from p to the end of a region; one that is longer than a file may be is 1 at 0
 unfoldable pub entriesIn : List ℕ → (p : ℕ) → Outcome (List Extension)
 entriesIn region p = guard (leb (length region) maxFile) 1 0 >>= λ _. readEntries maxEntries false p (drop p region)

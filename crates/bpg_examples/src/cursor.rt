@@ -1,4 +1,4 @@
-// Walks over the entries of a file and prints a line: the file, and 18 answers of the cursor, two more than a file has entries.
+// Takes a cursor over the entries of a file and prints a line: the file, and 18 answers of the cursor, two more than a file has entries.
 use crate::hex;
 use crate::text;
 use bpg_format::Entry;

@@ -1,4 +1,4 @@
-// What the summary leaves out of an accepted file's reading.
+// What the line leaves out of an accepted file's reading.
 use crate::text;
 use bpg_format::Entry;
 use bpg_format::Header;

@@ -4,7 +4,7 @@
 // are skipped.
 //   00 to 05  a number code, see `numbers`       07  writing a record, see `case`
 //   06        reading a file                     08  canonicalizing a file
-//                                                09  walking over a file's entries
+//                                                09  the entries of a file, by the cursor
 mod canonical;
 mod case;
 mod cursor;

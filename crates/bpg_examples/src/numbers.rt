@@ -82,7 +82,7 @@ fn append_exp_golomb(space: &mut [u8], size: usize, at: usize, v: u64) {
         return;
     }
     let low = (v % 0x1_0000_0000) as u32;
-    let b = bpg_bit_buffer::append_exp_golomb(bpg_bit_buffer::none(), low);
+    let b = bpg_bit_buffer::append_exp_golomb(bpg_bit_buffer::empty(), low);
     let end = bpg_bit_buffer::write(&mut space[0..size], BytePos(at), b);
     show_pair(b" bits ", exp_golomb::size(low) as u64, b" next ", end.0);
     text::show(b" ");

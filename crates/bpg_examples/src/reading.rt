@@ -1,4 +1,4 @@
-// Reads a file and prints a line: the file, what `bpgshow` prints for it, and, where it is accepted, the rest of its record and the
+// Reads a file and prints a line: the file, the line of its reading, and, where it is accepted, the rest of its record and the
 // coded size.
 use crate::fields;
 use crate::hex;
@@ -13,8 +13,8 @@ fn show_first(s: &[u8], count: usize) {
     }
 }
 
-// What `bpgshow` prints, without the newline.
-fn show_summary(reading: Reading) {
+// The line of a reading, without the newline.
+fn show_line(reading: Reading) {
     let mut space = [0u8; 160];
     let n = line::write(reading, &mut space);
     if 0 < n {
@@ -24,7 +24,7 @@ fn show_summary(reading: Reading) {
 
 fn show_reading(reading: Reading) {
     text::show(b" ");
-    show_summary(reading);
+    show_line(reading);
     if reading.status == 0 {
         fields::show(reading);
     }

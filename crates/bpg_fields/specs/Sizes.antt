@@ -19,7 +19,7 @@ pub record Shown (word at : ℕ) (c : Code) : Type 0 where
   pub same : take (c .end) (bits 64 word) ≡ take at (bits 64 word) ++ expGolombBits (c .value)
 
 -- n bits of the region are there from bit `at` on, and fewer than 64; where `at` is in the middle of a byte, n is 0
-pub record Room (region : List ℕ) (at n : ℕ) : Type 0 where
+pub record BitsLeft (region : List ℕ) (at n : ℕ) : Type 0 where
   pub few : n ≤ 63
   pub there : n ≤ length (regionBits region) - at
   pub whole : 0 < n → at % 8 ≡ 0

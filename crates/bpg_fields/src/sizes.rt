@@ -13,7 +13,7 @@ ghost use Rattle.bpg_codec.specs.Bits.{bits as bitsOf};
 ghost use Rattle.bpg_bits.specs.BitNumbers.{regionBits};
 ghost use Rattle.bpg_format.specs.FileCodec.{sizeFields};
 ghost use Rattle.bpg_fields.specs.Fields.{sizesOutcome};
-ghost use Rattle.bpg_fields.specs.Sizes.{wordBits, Shown, Room};
+ghost use Rattle.bpg_fields.specs.Sizes.{wordBits, Shown, BitsLeft};
 
 // A code's value and the bit after it in a word; 64 or more: the word does not show it.
 struct Code {
@@ -58,8 +58,8 @@ fn code_at(word: u64, at: u32) -> Code
 }
 
 // How many bits the region has from `at` on, at most 63: none where `at` is not the first bit of a byte.
-fn room(region: &[u8], at: usize) -> usize
-    ensures { λ r. ⌜ Room (now (region .entry)) at r ⌝ }
+fn bits_left(region: &[u8], at: usize) -> usize
+    ensures { λ r. ⌜ BitsLeft (now (region .entry)) at r ⌝ }
 {
     if at % 8 != 0 {
         return 0;
@@ -78,7 +78,7 @@ pub(crate) fn read(region: &[u8], at: BitPos) -> Sizes
     let d = code_at(word, c.end);
     let e = code_at(word, d.end);
     let size = e.end as usize;
-    if room(region, at.0) < size {
+    if bits_left(region, at.0) < size {
         return fields::read_sizes(region, at);
     }
     Sizes::Value(

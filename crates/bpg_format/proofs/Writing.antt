@@ -34,7 +34,7 @@ use Rattle.bpg_format.proofs.WriteLaws.{same-loop, or-test, or-full, Ab
 
 -- ---- the content
 
-empty-is : (es : List Extension) → T (isEmpty es) → es ≡ []
+pub empty-is : (es : List Extension) → T (isEmpty es) → es ≡ []
 empty-is [] t = refl
 empty-is (e ∷ es) t = absurd t
 

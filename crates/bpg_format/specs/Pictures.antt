@@ -213,7 +213,7 @@ choicesOf c =
       dummy = dummyOf (c .extensions);
     }
 
--- ---- pictures and canonical forms of accepted files
+-- ---- pictures of accepted files
 
 -- p is the picture of the file: that of the content whose file it is
 pub record Shows (f : List ℕ) (p : Picture) : Type 0 where

@@ -1,13 +1,13 @@
 -- Reading as one chain of steps in document 01's order ("Refusal numbers", reading order), each refusal with its number and place.
--- It is equal to what the codec of `FileCodec` decodes (proofs/Reading).
+-- It is equal to what the codec of `FileCodec` decodes (proofs/Chain).
 use mathlib.Core.Bool.{Bool, true, false, not, _&&_, _||_}
 use mathlib.Core.List.{List, [], _∷_}
 use Prim.Native.Nat.{ℕ, zero, suc, _+_, _*_, _≤_}
-use lib.Dec.{leb, ltb, eqb}
+use lib.Dec.{leb, eqb}
 use lib.ListN.{length, take, drop, replicate}
 use Rattle.bpg_codec.specs.Select.{select}
 use Rattle.bpg_codec.specs.Outcome.{Outcome, ok, error, _>>=_, guard}
-use Rattle.bpg_codec.specs.Bits.{unpack, allZero}
+use Rattle.bpg_codec.specs.Bits.{isPadding, unpack}
 use Rattle.bpg_numbers.specs.Ue7.{ue7, notZero}
 use Rattle.bpg_bits.specs.BitNumbers.{unsigned, expGolomb}
 use Rattle.bpg_format.specs.Limits.{maxEntries, maxFile}
@@ -120,7 +120,7 @@ readHeader depth p l =
     number 32 p l >>= λ size.
     guard (leb (size .0) (length (size .2))) 2 p >>= λ _.
     readFields p (8 * size .1) (unpack (take (size .0) (size .2))) >>= λ h.
-    guard (ltb (length (h .2)) 8 && allZero (h .2)) 15 p >>= λ _.
+    guard (isPadding (h .2)) 15 p >>= λ _.
     guard (noForbiddenBit (h .0)) 17 p >>= λ _.
     guard (hevcAllowed depth (h .0)) 16 p >>= λ _.
     ok (h .0, size .1 + size .0, drop (size .0) (size .2))

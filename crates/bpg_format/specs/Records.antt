@@ -12,7 +12,7 @@ use Rattle.bpg_format.specs.declared.record.Header.{Header}
 use Rattle.bpg_format.specs.declared.record.Record.{Record}
 use Rattle.bpg_format.specs.declared.answer.Reading.{Reading}
 use Rattle.bpg_format.specs.Zero.{range, zeroEntry, zeroHeader, refusedReading}
-use Rattle.bpg_format.specs.Content.{Extension, Content, hasAlpha}
+use Rattle.bpg_format.specs.Content.{Flags, Extension, Loop, Content, hasAlpha}
 use Rattle.bpg_format.specs.Syntax.{blockBytes, headerBytes, dataLength}
 use Rattle.bpg_format.specs.Rules.{minCbLog2SizeY}
 use Rattle.bpg_format.specs.Read.{readContent}
@@ -76,25 +76,31 @@ extensionOf source e = record { tag = e .tag; payload = bytesIn source (e .paylo
 abbrev pub usedEntries : Record → List Entry
 usedEntries r = take (r .«entry_count») (r .entries)
 
+abbrev pub recordFlags : Record → Flags
+recordFlags r =
+    record {
+      pixelFormat = r .«pixel_format»;
+      alpha1 = r .«alpha1_flag»;
+      bitDepthMinus8 = r .«bit_depth_minus_8»;
+      colorSpace = r .«color_space»;
+      extensionPresent = r .«extension_present_flag»;
+      alpha2 = r .«alpha2_flag»;
+      limitedRange = r .«limited_range_flag»;
+      animation = r .«animation_flag»;
+    }
+
+abbrev pub recordLoop : Record → Loop
+recordLoop r = record { count = r .«loop_count»; periodNum = r .«frame_period_num»; periodDen = r .«frame_period_den» }
+
 unfoldable pub contentOf : Record → List ℕ → Content
 contentOf r source =
     record {
-      flags =
-          record {
-            pixelFormat = r .«pixel_format»;
-            alpha1 = r .«alpha1_flag»;
-            bitDepthMinus8 = r .«bit_depth_minus_8»;
-            colorSpace = r .«color_space»;
-            extensionPresent = r .«extension_present_flag»;
-            alpha2 = r .«alpha2_flag»;
-            limitedRange = r .«limited_range_flag»;
-            animation = r .«animation_flag»;
-          };
+      flags = recordFlags r;
       width = r .«picture_width»;
       height = r .«picture_height»;
       explicitLength = r .«explicit_length»;
       extensions = map (extensionOf source) (usedEntries r);
-      loop = record { count = r .«loop_count»; periodNum = r .«frame_period_num»; periodDen = r .«frame_period_den» };
+      loop = recordLoop r;
       alphaHeader = getD (r .headers) 0 zeroHeader;
       colorHeader = getD (r .headers) 1 zeroHeader;
       hevcData = bytesIn source (r .«data»);

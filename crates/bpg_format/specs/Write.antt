@@ -78,7 +78,8 @@ headerZero h =
 abbrev pub sameLoop : Loop → Loop → Bool
 sameLoop p q = eqb (p .count) (q .count) && (eqb (p .periodNum) (q .periodNum) && eqb (p .periodDen) (q .periodDen))
 
--- entries without the extension flag; loop numbers without a tag 5 entry; an alpha header without alpha
+-- no entries without the extension flag; no loop numbers without a tag 5 entry; no alpha header without alpha; in each header, what a flag
+-- leaves out is zero
 unfoldable pub consistent : Content → Bool
 consistent c =
     (c .flags .extensionPresent || isEmpty (c .extensions))
@@ -177,7 +178,7 @@ pub record WritingStatus (s : ℕ) : Type 0 where
 
 -- ---- the records that are written
 
--- what a record's types give: a number of each width, arrays of their lengths
+-- what a record's types give, as far as it is needed to know which records are written
 pub record Typed (r : Record) : Type 0 where
   pub width : r .«picture_width» < 2 ^ 32
   pub height : r .«picture_height» < 2 ^ 32

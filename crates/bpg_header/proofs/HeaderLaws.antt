@@ -10,7 +10,7 @@ use lib.Seq.{take-all, length-take-le}
 use borrow.Author.Tests.{le-leb, lt-leb}
 use Rattle.bpg_codec.specs.Outcome.{Outcome, ok, error, _>>=_, guard}
 use Rattle.bpg_codec.specs.Codec.{decodeAt}
-use Rattle.bpg_codec.specs.Bits.{unpack}
+use Rattle.bpg_codec.specs.Bits.{isPadding, unpack}
 use Rattle.bpg_codec.proofs.Select.{select-true, select-false}
 use Rattle.bpg_codec.proofs.Outcome.{error-not-ok}
 use Rattle.bpg_codec.proofs.Lists.{take-drop, either-way}
@@ -27,7 +27,7 @@ use Rattle.bpg_format.specs.Read.{readFields, readHeader}
 use Rattle.bpg_format.proofs.Chain.{fields-chain}
 use Rattle.bpg_fields.specs.declared.all_fields.Fields.{Fields}
 use Rattle.bpg_fields.specs.AllFields.{fieldsOutcome}
-use Rattle.bpg_header.specs.Headers.{refusedHeader, headerAnswer, isPadding, fieldsIn, headerIn}
+use Rattle.bpg_header.specs.Headers.{refusedHeader, headerAnswer, fieldsIn, headerIn}
 use Rattle.bpg_fields.proofs.AllFieldLaws.{fields-advance}
 
 -- a region that is no longer than a file is read to its end

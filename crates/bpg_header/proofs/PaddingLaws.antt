@@ -9,11 +9,10 @@ use lib.ListN.{length, take, drop, getD, length-take, length-drop, drop-of-lengt
 use lib.Pow.{pow-pos}
 use lib.Seq.{drop-drop, drop-at, getD-take}
 use borrow.Author.Tests.{ne-eqb, lt-ltb, le-ltb}
-use Rattle.bpg_codec.specs.Bits.{numberFrom, number, allZero, bits, unpack}
+use Rattle.bpg_codec.specs.Bits.{numberFrom, number, allZero, isPadding, bits, unpack}
 use Rattle.bpg_codec.proofs.Lists.{drop-next}
 use Rattle.bpg_codec.proofs.Bits.{numberFrom-bounds, numberFrom-bits, bits-append, length-bits, unpack-one, length-unpack, unpack-drop}
 use Rattle.bpg_bits.specs.BitNumbers.{regionBits}
-use Rattle.bpg_header.specs.Headers.{isPadding}
 
 -- zero bits make the number 0, and no others do
 zero-number : (l : List Bool) → eqb (number l) 0 ≡ allZero l

@@ -1,11 +1,10 @@
 -- What reading a header answers (document 01, "Order of the file", item 6).
-use mathlib.Core.Bool.{Bool, _&&_}
 use mathlib.Core.List.{List}
 use Prim.Native.Nat.{ℕ, _*_}
-use lib.Dec.{leb, ltb}
+use lib.Dec.{leb}
 use lib.ListN.{length, drop}
 use Rattle.bpg_codec.specs.Outcome.{Outcome, ok, error, _>>=_, guard}
-use Rattle.bpg_codec.specs.Bits.{unpack, allZero}
+use Rattle.bpg_codec.specs.Bits.{isPadding, unpack}
 use Rattle.bpg_format.specs.Limits.{maxFile}
 use Rattle.bpg_format.specs.declared.record.Header.{Header}
 use Rattle.bpg_format.specs.Zero.{zeroHeader}
@@ -20,10 +19,6 @@ abbrev pub headerAnswer : Outcome (Header × ℕ × List ℕ) → HeaderReading
 headerAnswer (ok x) = record { status = 0; offset = 0; header = x .0; next = x .1 }
 headerAnswer (error s o) = refusedHeader s o
 
--- after the last field come 0 to 7 zero bits
-abbrev pub isPadding : List Bool → Bool
-isPadding l = ltb (length l) 8 && allZero l
-
 -- what `readHeader` does after the length, which stands at p: the fields begin at `start` and take up the region
 unfoldable pub fieldsIn : (region : List ℕ) (depth p start : ℕ) → Outcome (Header × ℕ × List ℕ)
 fieldsIn region depth p start =
@@ -33,6 +28,6 @@ fieldsIn region depth p start =
     guard (hevcAllowed depth (h .0)) 16 p >>= λ _.
     ok (h .0, length region, drop (length region) region)
 
--- the header at p of a file, which is no longer than a file may be
+-- the header at p of a file; one that is longer than a file may be is 1 at 0
 unfoldable pub headerIn : List ℕ → (depth p : ℕ) → Outcome (Header × ℕ × List ℕ)
 headerIn file depth p = guard (leb (length file) maxFile) 1 0 >>= λ _. readHeader depth p (drop p file)

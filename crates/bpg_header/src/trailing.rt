@@ -3,8 +3,8 @@ use bpg_bits::bits;
 use bpg_bytes::BitPos;
 ghost use mathlib.Core.Path.{_≡_};
 ghost use lib.ListN.{drop};
+ghost use Rattle.bpg_codec.specs.Bits.{isPadding};
 ghost use Rattle.bpg_bits.specs.BitNumbers.{regionBits};
-ghost use Rattle.bpg_header.specs.Headers.{isPadding};
 
 // From `at` on there are 0 to 7 bits, all zero: the low bits of the byte that `at` stands in.
 pub(crate) fn is_padding(region: &[u8], at: BitPos) -> bool

@@ -1,4 +1,4 @@
-// Reads files of zeros, about as long as a file may be, and prints a line for each: its length, and what `bpgshow` prints.
+// Reads files of zeros, about as long as a file may be, and prints a line for each: its length, and the line of its reading.
 // The lengths are the lines of standard input.
 //
 // Such a file is longer than the stack. None is stored: `read` is called in one place, before anything is written, and there the

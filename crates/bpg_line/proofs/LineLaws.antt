@@ -1,9 +1,7 @@
 -- The cases of the line, and how long it is: every line fits the line buffer. Assumes nothing.
 use mathlib.Core.Path.{_≡_}
 use mathlib.Core.Bool.{Bool, true, false}
-use mathlib.Core.List.{List}
 use Prim.Native.Nat.{ℕ, _+_, _^_, _≤_, _<_}
-use native.Mathlib.Decide.{ℕ-discrete}
 use native.Mathlib.Omega.{arith}
 use lib.ListN.{length, length-append}
 use mir.Val.{WT}
@@ -93,11 +91,3 @@ pub length-refused : (s o : ℕ) → s < 2 ^ 8 → o < 2 ^ 64 → length (refuse
 unfolding ascii
 length-refused s o h k =
     simp length-append (omega (arith, decimal-most 2 s (omega arith), decimal-most 19 o (omega arith)))
-
--- every reading whose fields are within their types has a line that fits
-pub length-line : (r : Reading) → r .status < 2 ^ 8 → r .offset < 2 ^ 64 → Printable (r .«record») → length (lineOf r) ≤ lineSize
-length-line r h k p =
-    elim (ℕ-discrete (r .status) 0) [
-      | yes e ↦ rw (line-accepted r e) (length-accepted (r .«record») p)
-      | no e ↦ rw (line-refused r e) (length-refused (r .status) (r .offset) h k)
-    ]

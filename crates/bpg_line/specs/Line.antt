@@ -1,4 +1,4 @@
--- The line that `bpgshow` prints (document 01, "The desk's examples").
+-- The line of a reading, which `bpgshow` prints (document 01, "The desk's examples").
 use mathlib.Core.Bool.{Bool, true, false}
 use mathlib.Core.List.{List, _++_}
 use Prim.Native.Nat.{ℕ, _+_}

@@ -1,4 +1,4 @@
-// The line that `bpgshow` prints.
+// The line of a reading, which `bpgshow` prints.
 use crate::line_buffer;
 use crate::line_buffer::LineBuffer;
 use bpg_format::Reading;

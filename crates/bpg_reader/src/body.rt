@@ -43,7 +43,7 @@ fn entries(file: &[u8], head: Head) -> Block
 }
 
 // Refusal 14: with the animation flag, an entry with tag 5 is there.
-fn has_control(animation_flag: bool, animated: bool) -> bool
+fn control_fits(animation_flag: bool, animated: bool) -> bool
     ensures { λ r. ⌜ r ≡ (not «animation_flag» || animated) ⌝ }
 {
     if animation_flag {
@@ -72,7 +72,7 @@ pub(crate) fn read(file: &[u8], head: Head) -> Reading
     if block.status != 0 {
         return reading_refused(block.status, block.offset);
     }
-    if !has_control(head.animation_flag, block.animated) {
+    if !control_fits(head.animation_flag, block.animated) {
         return reading_refused(14, 5);
     }
     let start = head.end + head.extension_length as usize;

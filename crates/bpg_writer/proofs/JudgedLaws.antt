@@ -1,9 +1,9 @@
 -- What is known of a record that passed the judging. Assumes nothing.
-use mathlib.Core.Path.{_≡_, refl, sym, _∙_}
+use mathlib.Core.Path.{_≡_, sym, _∙_}
 use mathlib.Core.Bool.{true, false, not, _&&_, _||_}
-use mathlib.Core.List.{List, [], _∷_, map}
+use mathlib.Core.List.{List, [], map}
 use Prim.Native.Nat.{ℕ, _+_, _≤_}
-use lib.Dec.{T, leb, leb→le}
+use lib.Dec.{leb, leb→le}
 use lib.ListN.{length, getD}
 use Rattle.bpg_codec.specs.Select.{select}
 use Rattle.bpg_codec.specs.Outcome.{ok}
@@ -15,14 +15,14 @@ use Rattle.bpg_format.specs.Limits.{maxEntries}
 use Rattle.bpg_format.specs.declared.record.Header.{Header}
 use Rattle.bpg_format.specs.declared.record.Record.{Record}
 use Rattle.bpg_format.specs.Zero.{zeroHeader}
-use Rattle.bpg_format.specs.Content.{isEmpty, Extension}
+use Rattle.bpg_format.specs.Content.{isEmpty}
 use Rattle.bpg_format.specs.FileCodec.{colorSpaceAllowed, noForbiddenBit, hevcAllowed}
 use Rattle.bpg_format.specs.Rules.{HevcRules, hasLoop}
 use Rattle.bpg_format.specs.Records.{usedEntries, extensionOf, contentOf}
 use Rattle.bpg_format.specs.Write.{entriesInSource, inSource, rangesInSource, unusedZero, consistent, fieldsCoded, checkHeader, checkEntries, checkContent}
 use Rattle.bpg_format.proofs.HeaderRuleLaws.{hevc-sound}
 use Rattle.bpg_format.proofs.WriteLaws.{or-test}
-use Rattle.bpg_format.proofs.Writing.{in-source-sound}
+use Rattle.bpg_format.proofs.Writing.{empty-is, in-source-sound}
 use Rattle.bpg_check.specs.Check.{checkRecord}
 use Rattle.bpg_writer.specs.Parts.{RangeInside}
 
@@ -36,10 +36,6 @@ pub record Judged (r : Record) (source : List ℕ) : Type 0 where
   pub space : r .«color_space» ≤ 4
   pub alpha-rules : (r .«alpha1_flag» || r .«alpha2_flag») ≡ true → HevcRules (r .«bit_depth_minus_8» + 8) (getD (r .headers) 0 zeroHeader)
   pub color-rules : HevcRules (r .«bit_depth_minus_8» + 8) (getD (r .headers) 1 zeroHeader)
-
-none : (es : List Extension) → T (isEmpty es) → es ≡ []
-none [] t = refl
-none (e ∷ es) t = absurd t
 
 header-keeps : (depth : ℕ) (h : Header) → checkHeader depth h ≡ ok tt → HevcRules depth h
 unfolding checkHeader
@@ -88,7 +84,7 @@ module _ (r : Record) (source : List ℕ) where
         few = leb→le _ maxEntries a;
         payloads = in-source-sound source (usedEntries r) (and-left (entriesInSource source (usedEntries r)) _ b);
         data-inside = leb→le _ (length source) (and-right (entriesInSource source (usedEntries r)) _ b);
-        no-block = λ n. none _ (or-test (r .«extension_present_flag») _ block n);
+        no-block = λ n. empty-is _ (or-test (r .«extension_present_flag») _ block n);
         format = kept e3 .format;
         depth = kept e3 .depth;
         space = kept e3 .space;

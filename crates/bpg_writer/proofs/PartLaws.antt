@@ -12,8 +12,8 @@ use Rattle.bpg_format.specs.declared.record.Entry.{Entry}
 use Rattle.bpg_format.specs.declared.record.Record.{Record}
 use Rattle.bpg_format.specs.Zero.{zeroEntry}
 use Rattle.bpg_format.specs.Syntax.{magic, byte4, byte5, extensionBytes, blockBytes}
-use Rattle.bpg_format.specs.Records.{bytesIn, extensionOf}
-use Rattle.bpg_writer.specs.Parts.{flagsOfRecord, headPart}
+use Rattle.bpg_format.specs.Records.{bytesIn, extensionOf, recordFlags}
+use Rattle.bpg_writer.specs.Parts.{headPart}
 use Rattle.bpg_writer.proofs.PutLaws.{Put, put-same, put-three, put-four}
 
 -- a range in its source has its length
@@ -38,12 +38,12 @@ module _ (out : List ℕ) (at : ℕ) (source : List ℕ) (e : Entry) (inside : e
       (omega (arith, fits, ap length whole)))
 
 -- magic and the two bytes, width, height and data length
-pub head-put : (out : List ℕ) (r : Record) (n b4 b5 : ℕ) → b4 ≡ byte4 (flagsOfRecord r) → b5 ≡ byte5 (flagsOfRecord r) → length (headPart r n) ≤ length out
+pub head-put : (out : List ℕ) (r : Record) (n b4 b5 : ℕ) → b4 ≡ byte4 (recordFlags r) → b5 ≡ byte5 (recordFlags r) → length (headPart r n) ≤ length out
     → (o1 : List ℕ) (p1 : ℕ) (o2 : List ℕ) (p2 : ℕ) (o3 : List ℕ) (p3 : ℕ) (o4 : List ℕ) (p4 : ℕ) → Put out 0 (magic ++ (b4 ∷ b5 ∷ [])) o1 p1
     → Put o1 p1 (ue7Bytes (r .«picture_width»)) o2 p2 → Put o2 p2 (ue7Bytes (r .«picture_height»)) o3 p3 → Put o3 p3 (ue7Bytes n) o4 p4 → Put out 0 (headPart r n) o4 p4
 head-put out r n b4 b5 e4 e5 fits o1 p1 o2 p2 o3 p3 o4 p4 first second third fourth =
-    let six : magic ++ (b4 ∷ b5 ∷ []) ≡ magic ++ (byte4 (flagsOfRecord r) ∷ byte5 (flagsOfRecord r) ∷ []) = ap₂ (λ (x y : ℕ). magic ++ (x ∷ y ∷ [])) e4 e5 in
-    put-four out 0 (magic ++ (byte4 (flagsOfRecord r) ∷ byte5 (flagsOfRecord r) ∷ [])) (ue7Bytes (r .«picture_width»)) (ue7Bytes (r .«picture_height»)) o1 p1 o2 p2 o3 p3
+    let six : magic ++ (b4 ∷ b5 ∷ []) ≡ magic ++ (byte4 (recordFlags r) ∷ byte5 (recordFlags r) ∷ []) = ap₂ (λ (x y : ℕ). magic ++ (x ∷ y ∷ [])) e4 e5 in
+    put-four out 0 (magic ++ (byte4 (recordFlags r) ∷ byte5 (recordFlags r) ∷ [])) (ue7Bytes (r .«picture_width»)) (ue7Bytes (r .«picture_height»)) o1 p1 o2 p2 o3 p3
     (put-same out 0 _ _ o1 p1 six first) second third (ue7Bytes n) o4 p4 fourth (omega arith)
 
 -- ---- the entries

@@ -13,28 +13,14 @@ use Rattle.bpg_format.specs.declared.record.Range.{Range}
 use Rattle.bpg_format.specs.declared.record.Entry.{Entry}
 use Rattle.bpg_format.specs.declared.record.Header.{Header}
 use Rattle.bpg_format.specs.declared.record.Record.{Record}
-use Rattle.bpg_format.specs.Content.{Flags}
 use Rattle.bpg_format.specs.Rules.{HevcRules}
 use Rattle.bpg_format.specs.Syntax.{magic, byte4, byte5, blockBytes, headerBits}
-use Rattle.bpg_format.specs.Records.{bytesIn, extensionOf, usedEntries}
-
-abbrev pub flagsOfRecord : Record → Flags
-flagsOfRecord r =
-    record {
-      pixelFormat = r .«pixel_format»;
-      alpha1 = r .«alpha1_flag»;
-      bitDepthMinus8 = r .«bit_depth_minus_8»;
-      colorSpace = r .«color_space»;
-      extensionPresent = r .«extension_present_flag»;
-      alpha2 = r .«alpha2_flag»;
-      limitedRange = r .«limited_range_flag»;
-      animation = r .«animation_flag»;
-    }
+use Rattle.bpg_format.specs.Records.{bytesIn, extensionOf, usedEntries, recordFlags}
 
 -- items 1 to 3 but for the extension length
 abbrev pub headPart : Record → (dataLength : ℕ) → List ℕ
 headPart r n =
-    magic ++ (byte4 (flagsOfRecord r) ∷ byte5 (flagsOfRecord r) ∷ (ue7Bytes (r .«picture_width») ++ (ue7Bytes (r .«picture_height») ++ ue7Bytes n)))
+    magic ++ (byte4 (recordFlags r) ∷ byte5 (recordFlags r) ∷ (ue7Bytes (r .«picture_width») ++ (ue7Bytes (r .«picture_height») ++ ue7Bytes n)))
 
 -- a payload that lies in a source of so many bytes
 abbrev pub RangeInside : (size : ℕ) → Entry → Type 0

@@ -14,8 +14,8 @@ ghost use Rattle.bpg_codec.specs.Buffer.{written, writtenEnd};
 ghost use Rattle.bpg_format.specs.Limits.{maxEntries};
 ghost use Rattle.bpg_format.specs.Syntax.{byte4 as byteFour, byte5 as byteFive, extensionBytes};
 ghost use Rattle.bpg_codec.specs.Lawful.{All};
-ghost use Rattle.bpg_format.specs.Records.{extensionOf, usedEntries};
-ghost use Rattle.bpg_writer.specs.Parts.{flagsOfRecord, headPart, RangeInside, entriesPart, blockPart, headerPart, bodyPart};
+ghost use Rattle.bpg_format.specs.Records.{extensionOf, usedEntries, recordFlags};
+ghost use Rattle.bpg_writer.specs.Parts.{headPart, RangeInside, entriesPart, blockPart, headerPart, bodyPart};
 
 fn bit(b: bool) -> u8
     ensures { λ r. ⌜ (r ≡ bitOf b) × (r < 2) ⌝ }
@@ -27,7 +27,7 @@ fn bit(b: bool) -> u8
 fn byte4(record: Record) -> u8
     requires { ⌜ «record» .«pixel_format» ≤ 5 ⌝ }
     requires { ⌜ «record» .«bit_depth_minus_8» ≤ 6 ⌝ }
-    ensures { λ r. ⌜ r ≡ byteFour (flagsOfRecord «record») ⌝ }
+    ensures { λ r. ⌜ r ≡ byteFour (recordFlags «record») ⌝ }
 {
     record.pixel_format * 32 + bit(record.alpha1_flag) * 16 + record.bit_depth_minus_8
 }
@@ -35,7 +35,7 @@ fn byte4(record: Record) -> u8
 // Colour space, extension flag, alpha2, limited range, animation.
 fn byte5(record: Record) -> u8
     requires { ⌜ «record» .«color_space» ≤ 4 ⌝ }
-    ensures { λ r. ⌜ r ≡ byteFive (flagsOfRecord «record») ⌝ }
+    ensures { λ r. ⌜ r ≡ byteFive (recordFlags «record») ⌝ }
 {
     let extension = bit(record.extension_present_flag) * 8;
     let alpha = bit(record.alpha2_flag) * 4;

@@ -27,7 +27,7 @@ fn encoded(present: bool, header: Header) -> BitBuffer
     ensures { λ r. ⌜ Encoded present header r ⌝ }
 {
     if !present {
-        return bpg_bit_buffer::none();
+        return bpg_bit_buffer::empty();
     }
     header::encode(header)
 }

@@ -57,17 +57,17 @@ module _ (c : tie.After-least) where
 least-requires : tie.Need-least-requires
 least-requires c κs = search needs
 
-too-many-requires : tie.Need-too-many-requires
-too-many-requires c κs = search needs
+overfull-requires : tie.Need-overfull-requires
+overfull-requires c κs = search needs
 
 returns : tie.Need-returns
-returns c = let l = c .before .before .before in appended-not (b l) (v l) _ (most l) (omega arith) _ (c .too-many .ensures) ∙ same l
+returns c = let l = c .before .before .before in appended-not (b l) (v l) _ (most l) (omega arith) _ (c .overfull .ensures) ∙ same l
 
-too-many-requires-2 : tie.Need-too-many-requires-2
-too-many-requires-2 c κs = search needs
+overfull-requires-2 : tie.Need-overfull-requires-2
+overfull-requires-2 c κs = search needs
 
 returns-2 : tie.Need-returns-2
-returns-2 c = let l = c .before .before .before .before .before in appended-not (b l) (v l) _ (most l) (omega arith) _ (c .too-many2 .ensures) ∙ same l
+returns-2 c = let l = c .before .before .before .before .before in appended-not (b l) (v l) _ (most l) (omega arith) _ (c .overfull2 .ensures) ∙ same l
 
 shl-t8 : tie.Need-shl-t8
 shl-t8 c = search needs
@@ -92,9 +92,9 @@ append-spec =
     tie.close
     (tie.spec
     least-requires
-    too-many-requires
+    overfull-requires
     returns
-    too-many-requires-2
+    overfull-requires-2
     returns-2
     shl-t8
     shl-t10

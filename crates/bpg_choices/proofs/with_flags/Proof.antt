@@ -1,13 +1,11 @@
 -- `with_flags` meets its contract. Assumes nothing.
 use mathlib.Core.Path.{_≡_, sym, ap, ap₂, _∙_}
 use mathlib.Core.Bool.{false, not}
-use mathlib.Core.List.{List, []}
+use mathlib.Core.List.{List}
 use lib.Dec.{eqb}
 use lib.ListN.{length, set, length-map}
 use Rattle.bpg_format.specs.declared.record.Header.{Header}
-use Rattle.bpg_format.specs.Zero.{zeroHeader}
 use Rattle.bpg_format.proofs.record.Header as header-type
-use Rattle.bpg_fields.specs.Fields.{withFlags}
 use Rattle.bpg_choices.specs.Records.{canonicalHeader, recordWith}
 use Rattle.bpg_choices.proofs.RecordLaws.{change-both}
 use borrow.Author.Needs.{needs}
@@ -40,9 +38,8 @@ returns : tie.Need-returns
 returns c =
     let s = c .before .before .before .before in
     let r = s .args .t1 in
-    let d = withFlags zeroHeader [] in
     ap (λ (l : List Header). recordWith (not (eqb (r .«entry_count») 0)) false (r .entries) l r)
-    (ap₂ (λ (x y : Header). set (set (r .headers) 0 x) 1 y) (c .before .canonical-header .ensures) (c .canonical-header2 .ensures) ∙ change-both canonicalHeader (r .headers) d (two s))
+    (ap₂ (λ (x y : Header). set (set (r .headers) 0 x) 1 y) (c .before .canonical-header .ensures) (c .canonical-header2 .ensures) ∙ change-both canonicalHeader (r .headers) _ (two s))
 
 pub with-flags-spec : {M : Type 1} → statement M
 with-flags-spec =

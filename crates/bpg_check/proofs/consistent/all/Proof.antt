@@ -1,13 +1,13 @@
 -- `consistent::all` meets its contract. Assumes nothing.
 use mathlib.Core.Path.{_≡_, sym, ap, _∙_}
 use mathlib.Core.Bool.{true}
-use mathlib.Core.List.{List, []}
+use mathlib.Core.List.{List}
 use Prim.Native.Nat.{ℕ}
 use native.Mathlib.Omega.{arith}
 use lib.ListN.{length, getD, length-map}
 use borrow.Author.Tests.{not-true, not-false}
 use Rattle.bpg_format.specs.Zero.{zeroHeader}
-use Rattle.bpg_fields.specs.Fields.{withFlags}
+use Rattle.bpg_format.specs.declared.record.Header.{Header}
 use Rattle.bpg_format.specs.Write.{absentZero}
 use Rattle.bpg_format.proofs.record.Header as header-type
 use Rattle.bpg_check.proofs.ConsistentLaws.{header-at, block, control, alpha, block-misfit, control-misfit, alpha-misfit, alpha-fields, color-decides}
@@ -32,8 +32,8 @@ module _ (c : tie.Else3) where
   alpha-fits : (source : List ℕ) → alpha (begin .args .t1) source ≡ true
   alpha-fits source = sym (c .before .alpha-fits .ensures) ∙ not-false _ (c .if3 .left)
 
-  alpha-header : getD (begin .args .t1 .headers) 0 (withFlags zeroHeader []) ≡ getD (begin .args .t1 .headers) 0 zeroHeader
-  alpha-header = header-at (begin .args .t1 .headers) 0 (two begin) (omega arith)
+  alpha-header : (d : Header) → getD (begin .args .t1 .headers) 0 d ≡ getD (begin .args .t1 .headers) 0 zeroHeader
+  alpha-header d = header-at d (begin .args .t1 .headers) 0 (two begin) (omega arith)
 
 block-fits-requires : tie.Need-block-fits-requires
 block-fits-requires c κs = search needs
@@ -67,7 +67,7 @@ returns-4 c =
     let l = a .before .before in
     λ source.
     alpha-fields _ source (block-fits (l .before .before) source) (loop-fits l source) (alpha-fits a source)
-    (sym (c .before .absent-zero .ensures ∙ ap absentZero (alpha-header a)) ∙ not-true _ (c .if4 .taken))
+    (sym (c .before .absent-zero .ensures ∙ ap absentZero (alpha-header a _)) ∙ not-true _ (c .if4 .taken))
 
 element-copy-out-color : tie.Need-element-copy-out-color
 element-copy-out-color c = search needs
@@ -80,10 +80,10 @@ returns-5 c =
     let f = c .before .before in
     let a = f .before .before .before in
     let l = a .before .before in
-    let color = ap absentZero (header-at (begin a .args .t1 .headers) 1 (two (begin a)) (omega arith)) in
+    let color = ap absentZero (header-at _ (begin a .args .t1 .headers) 1 (two (begin a)) (omega arith)) in
     λ source.
     color-decides _ source (block-fits (l .before .before) source) (loop-fits l source) (alpha-fits a source) _
-    (sym (f .before .absent-zero .ensures ∙ ap absentZero (alpha-header a)) ∙ not-false _ (f .if4 .left)) (c .absent-zero2 .ensures ∙ color)
+    (sym (f .before .absent-zero .ensures ∙ ap absentZero (alpha-header a _)) ∙ not-false _ (f .if4 .left)) (c .absent-zero2 .ensures ∙ color)
 
 pub all-spec : {M : Type 1} → statement M
 all-spec =

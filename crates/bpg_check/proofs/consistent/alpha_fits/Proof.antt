@@ -29,7 +29,7 @@ header-zero-requires c κs = search needs
 returns-2 : tie.Need-returns-2
 returns-2 c =
     let e = c .before .before in
-    or-off _ _ _ (sym (e .before .has-alpha .ensures) ∙ e .if1 .left) (c .header-zero .ensures ∙ ap headerZero (header-at (e .before .before .args .t1 .headers) 0 (two (e .before .before)) (omega arith)))
+    or-off _ _ _ (sym (e .before .has-alpha .ensures) ∙ e .if1 .left) (c .header-zero .ensures ∙ ap headerZero (header-at _ (e .before .before .args .t1 .headers) 0 (two (e .before .before)) (omega arith)))
 
 pub alpha-fits-spec : {M : Type 1} → statement M
 alpha-fits-spec =

@@ -2,7 +2,8 @@
 use mathlib.Core.Path.{sym, ap, _∙_}
 use Rattle.bpg_entries.specs.declared.animation.Animation.{Animation}
 use Rattle.bpg_format.specs.Write.{sameLoop}
-use Rattle.bpg_check.specs.Check.{recordLoop, animationLoop}
+use Rattle.bpg_format.specs.Records.{recordLoop}
+use Rattle.bpg_check.specs.Check.{animationLoop}
 use Rattle.bpg_rules.proofs.AbsentLaws.{or-on, or-off}
 use borrow.Author.Needs.{needs}
 use Rattle.bpg_check.proofs.consistent.loop_fits.Statement.{statement}

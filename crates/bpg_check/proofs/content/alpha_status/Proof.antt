@@ -33,7 +33,7 @@ returns-2 : tie.Need-returns-2
 returns-2 c =
     let e = c .before .before in
     alpha-decides _ _ _ (sym (e .before .has-alpha .ensures) ∙ not-false _ (e .if1 .left))
-    (c .status .ensures ∙ ap (λ (h : Header). statusOf (checkHeader (e .before .before .args .depth) h)) (header-at (e .before .before .args .t1 .headers) 0 (two (e .before .before)) (omega arith)))
+    (c .status .ensures ∙ ap (λ (h : Header). statusOf (checkHeader (e .before .before .args .depth) h)) (header-at _ (e .before .before .args .t1 .headers) 0 (two (e .before .before)) (omega arith)))
 
 pub alpha-status-spec : {M : Type 1} → statement M
 alpha-status-spec =

@@ -47,7 +47,7 @@ returns-3 c =
     let s = e .before .before in
     λ source.
     color-decides _ source (sym (e .before .control-fits .ensures source) ∙ not-false _ (e .if1 .left)) _ (a .before .alpha-status .ensures) _ (a .if2 .left)
-    (c .status .ensures ∙ ap (λ (h : Header). statusOf (checkHeader (depth (s .args .t1) source) h)) (header-at (s .args .t1 .headers) 1 (two s) (omega arith)))
+    (c .status .ensures ∙ ap (λ (h : Header). statusOf (checkHeader (depth (s .args .t1) source) h)) (header-at _ (s .args .t1 .headers) 1 (two s) (omega arith)))
 
 pub headers-status-spec : {M : Type 1} → statement M
 headers-status-spec =

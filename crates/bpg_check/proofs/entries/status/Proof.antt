@@ -5,10 +5,10 @@ use mathlib.Core.List.{map}
 use Prim.Native.Nat.{_-_, _≤_}
 use native.Mathlib.Omega.{arith}
 use lib.ListN.{length, take, drop, length-map}
-use Rattle.bpg_format.specs.Records.{extensionOf}
+use Rattle.bpg_format.specs.Records.{extensionOf, recordLoop}
 use Rattle.bpg_format.specs.Write.{checkEntries}
 use Rattle.bpg_format.proofs.record.Entry as entry-type
-use Rattle.bpg_check.specs.Check.{statusOf, recordLoop}
+use Rattle.bpg_check.specs.Check.{statusOf}
 use Rattle.bpg_check.proofs.EntryLaws.{used-inside, entry-stops, entry-goes-on, entries-done}
 use borrow.Author.Needs.{needs}
 use Rattle.bpg_check.proofs.entries.status.Statement.{statement}

@@ -12,8 +12,8 @@ use Rattle.bpg_encode.proofs.header.encode.Tie as tie
 nine : (c : tie.Start) → length (c .args .header .«range_flags») ≡ 9
 nine c = sym (length-map (c .args .header .«range_flags») (λ v. v)) ∙ c .good .0 .1 .1 .1 .1 .1 .1 .1 .1 .1 .1 .1 .1 .1 .1 .1 .1 .1 .1 .0 .1 .0 .1
 
-none-requires : tie.Need-none-requires
-none-requires c κs = search needs
+empty-requires : tie.Need-empty-requires
+empty-requires c κs = search needs
 
 add-sizes-requires : tie.Need-add-sizes-requires
 add-sizes-requires c κs = search needs
@@ -44,7 +44,7 @@ returns c =
     let pcm = c .before .before .before .before in
     let sizes = pcm .before .before .before in
     let start = sizes .before .before in (
-      header-gathered (start .args .header) (sizes .before .none .ensures)
+      header-gathered (start .args .header) (sizes .before .empty .ensures)
           (added-then (sizes .add-sizes .ensures)
           (added-then (pcm .before .before .add-flag .ensures)
           (added-then (pcm .before .add-flag2 .ensures)
@@ -59,7 +59,7 @@ pub encode-spec : {M : Type 1} → statement M
 encode-spec =
     tie.close
     (tie.spec
-    none-requires
+    empty-requires
     add-sizes-requires
     add-flag-requires
     add-flag-requires-2

@@ -30,8 +30,8 @@ code-at-requires-5 c κs = search needs
 cast-size : tie.Need-cast-size
 cast-size c = search needs
 
-room-requires : tie.Need-room-requires
-room-requires c κs = search needs
+bits-left-requires : tie.Need-bits-left-requires
+bits-left-requires c κs = search needs
 
 read-sizes-requires : tie.Need-read-sizes-requires
 read-sizes-requires c κs = search needs
@@ -61,7 +61,7 @@ returns-2 c =
     let ha = e1 .code-at .ensures (omega arith) in
     λ i. five-found (w .word-at .result) (e1 .code-at .result) (e2 .code-at2 .result) (e3 .code-at3 .result) (e4 .code-at4 .result) (e5 .code-at5 .result) ha hb hc hd he
     (regionBits (a .region .now)) i (a .at .0) (omega arith)
-    (same-first (a .region .now) (a .at .0) (e5 .code-at5 .result .end) (w .word-at .result) (w .word-at .ensures) (r .room .ensures .whole (omega arith)) (omega arith) (omega arith) (omega arith))
+    (same-first (a .region .now) (a .at .0) (e5 .code-at5 .result .end) (w .word-at .result) (w .word-at .ensures) (r .bits-left .ensures .whole (omega arith)) (omega arith) (omega arith) (omega arith))
 
 pub read-spec : {M : Type 1} → statement M
 read-spec =
@@ -74,7 +74,7 @@ read-spec =
     code-at-requires-4
     code-at-requires-5
     cast-size
-    room-requires
+    bits-left-requires
     read-sizes-requires
     returns
     add-t10

@@ -6,7 +6,7 @@ use lib.ListN.{length, drop}
 use borrow.Author.Tests.{not-true, not-false}
 use Rattle.bpg_bits.specs.BitNumbers.{regionBits}
 use Rattle.bpg_format.specs.Limits.{maxFile}
-use Rattle.bpg_header.specs.Headers.{isPadding}
+use Rattle.bpg_codec.specs.Bits.{isPadding}
 use Rattle.bpg_header.proofs.HeaderLaws.{field-missing, not-padded, forbidden, rule-broken, header-read}
 use borrow.Author.Needs.{needs}
 use Rattle.bpg_header.proofs.header.with_size.Statement.{statement}

@@ -51,7 +51,7 @@ module _ (c : tie.Else2) where
   accepted = c .before .before .if1 .left
 
   controlled : (not (head entered .«animation_flag») || entered .entries .result .animated) ≡ true
-  controlled = sym (c .before .has-control .ensures) ∙ not-false _ (c .if2 .left)
+  controlled = sym (c .before .control-fits .ensures) ∙ not-false _ (c .if2 .left)
 
   inside : bodyStart (headFields (head entered)) ≤ length (file entered)
   inside = block-inside (file entered) (short entered) (head entered) (known entered) (entered .entries .result) (entered .entries .ensures) accepted
@@ -85,8 +85,8 @@ returns c =
     let e = c .before .before .before in
     c .reading-refused .ensures ∙ entries-refused (file e) (short e) (head e) (known e) (e .entries .result) (e .entries .ensures) (c .before .if1 .taken)
 
-has-control-requires : tie.Need-has-control-requires
-has-control-requires c κs = search needs
+control-fits-requires : tie.Need-control-fits-requires
+control-fits-requires c κs = search needs
 
 reading-refused-requires-2 : tie.Need-reading-refused-requires-2
 reading-refused-requires-2 c κs = search needs
@@ -97,7 +97,7 @@ returns-2 c =
     let e = k .before .before .before in
     c .reading-refused2 .ensures
     ∙ no-control (file e) (short e) (head e) (known e) (e .entries .result) (e .entries .ensures) (k .before .if1 .left)
-    (sym (k .has-control .ensures) ∙ not-true _ (c .before .if2 .taken))
+    (sym (k .control-fits .ensures) ∙ not-true _ (c .before .if2 .taken))
 
 cast-start : tie.Need-cast-start
 cast-start c = search needs
@@ -174,7 +174,7 @@ read-spec =
     entries-requires
     reading-refused-requires
     returns
-    has-control-requires
+    control-fits-requires
     reading-refused-requires-2
     returns-2
     cast-start

@@ -56,10 +56,10 @@ module _ (c : tie.After-encoded2) where
   alpha-encoded : Encoded (r .«alpha1_flag» || r .«alpha2_flag») (getD (r .headers) 0 zeroHeader) (c .before .encoded .result)
   alpha-encoded =
       subst (λ (t : Bool). Encoded t (getD (r .headers) 0 zeroHeader) (c .before .encoded .result)) (c .before .before .has-alpha .ensures)
-      (subst (λ (h : Header). Encoded (c .before .before .has-alpha .result) h (c .before .encoded .result)) (header-at (r .headers) 0 two (omega arith)) (c .before .encoded .ensures .1))
+      (subst (λ (h : Header). Encoded (c .before .before .has-alpha .result) h (c .before .encoded .result)) (header-at _ (r .headers) 0 two (omega arith)) (c .before .encoded .ensures .1))
 
   color-encoded : Encoded true (getD (r .headers) 1 zeroHeader) (c .encoded2 .result)
-  color-encoded = subst (λ (h : Header). Encoded true h (c .encoded2 .result)) (header-at (r .headers) 1 two (omega arith)) (c .encoded2 .ensures .1)
+  color-encoded = subst (λ (h : Header). Encoded true h (c .encoded2 .result)) (header-at _ (r .headers) 1 two (omega arith)) (c .encoded2 .ensures .1)
 
 -- and the file was measured
 module _ (c : tie.After-measure) where
