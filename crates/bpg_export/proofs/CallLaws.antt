@@ -1,94 +1,82 @@
 -- What the calls answer in each case. Assumes nothing.
-use mathlib.Core.Path.{_≡_, refl, sym, ap, _∙_, subst}
+use mathlib.Core.Path.{_≡_, refl, sym, ap, ap₂, _∙_}
 use mathlib.Core.Logic.{_≢_}
 use mathlib.Core.Bool.{Bool, true, false}
-use mathlib.Core.List.{List, [], _∷_, _++_}
-use Prim.Native.Nat.{ℕ, _+_, _≤_, _<_}
-use native.Mathlib.Omega.{arith}
-use lib.Dec.{ltb}
-use lib.ListN.{length, take, drop, length-append}
-use borrow.Author.Tests.{le-leb, lt-leb, eq-eqb, ne-eqb}
-use Rattle.bpg_codec.specs.Outcome.{Outcome, ok, error}
+use mathlib.Core.List.{List}
+use Prim.Native.Nat.{ℕ}
+use lib.Dec.{ltb, leb, eqb}
+use lib.ListN.{length}
+use borrow.Author.Tests.{eq-eqb, ne-eqb}
+use Rattle.bpg_codec.specs.Outcome.{Outcome, error, _>>=_, guard}
 use Rattle.bpg_codec.specs.Select.{select}
-use Rattle.bpg_codec.specs.Buffer.{written}
-use Rattle.bpg_codec.proofs.Buffer.{stored}
+use Rattle.bpg_codec.proofs.Select.{select-true, select-false}
 use Rattle.bpg_format.specs.declared.record.Entry.{Entry}
 use Rattle.bpg_format.specs.declared.record.Record.{Record}
 use Rattle.bpg_format.specs.declared.answer.Reading.{Reading}
 use Rattle.bpg_format.specs.declared.answer.Written.{Written}
-use Rattle.bpg_format.specs.Zero.{zeroEntry, refusedWritten}
+use Rattle.bpg_format.specs.Zero.{zeroEntry}
 use Rattle.bpg_format.specs.Records.{readFile}
 use Rattle.bpg_format.specs.Parts.{entryOf}
 use Rattle.bpg_format.specs.Write.{writeOutcome, writtenAnswer, writtenBuffer, writeFile, writeBuffer}
+use Rattle.bpg_list.specs.Numbers.{recordLength, numbersOf, recordOf, beginsWith, numbersFit}
+use Rattle.bpg_list.specs.Calls.{listed, readList, listStatus}
 use Rattle.bpg_reader.specs.declared.parts.EntryAt.{EntryAt}
 use Rattle.bpg_reader.specs.Entries.{entryAnswer}
 use Rattle.bpg_reader.proofs.PartLaws.{entry-in}
-use Rattle.bpg_export.specs.Numbers.{recordLength, readingLength, numbersOf, readingNumbers, recordOf, numbersFit, beginsWith}
-use Rattle.bpg_export.specs.Calls.{listed, readAnswer, readNumbers, listOutcome, writeAnswer, writeBytes}
-use Rattle.bpg_export.proofs.NumberLaws.{written-next}
+use Rattle.bpg_export.specs.Calls.{readAnswer, readNumbers, listOutcome, writeAnswer, writeBytes}
 
 -- ---- reading
 
-module _ (file numbers : List ℕ) (reading : Reading) (read : reading ≡ readFile file) where
-  -- the answer, and the list after it
-  abbrev Listed : Written → List ℕ → Type 0
-  Listed w after = (w ≡ readAnswer file numbers) × (after ≡ readNumbers file numbers)
-
-  by-outcome : (o : Outcome (List ℕ)) → listed (length numbers) reading ≡ o → Listed (writtenAnswer o) (writtenBuffer o numbers)
-  unfolding readAnswer readNumbers
-  by-outcome o e =
-      let f = sym e ∙ ap (listed (length numbers)) read in
-      (ap writtenAnswer f, ap (λ (x : Outcome (List ℕ)). writtenBuffer x numbers) f)
-
-  pub file-refused : reading .status ≢ 0 → Listed (refusedWritten (reading .status) (reading .offset)) numbers
-  file-refused n = by-outcome (error (reading .status) (reading .offset)) (rw (ne-eqb (reading .status) 0 n))
-
-  pub list-short : reading .status ≡ 0 → length numbers < readingLength → Listed (refusedWritten 20 0) numbers
-  list-short z h = by-outcome (error 20 0) (rw (eq-eqb (reading .status) 0 z, lt-leb readingLength (length numbers) h))
-
-  pub list-written : reading .status ≡ 0 → readingLength ≤ length numbers → length (numbersOf (reading .«record»)) ≡ recordLength
-      → (o p : List ℕ) → o ≡ written numbers 0 (numbersOf (reading .«record»)) → p ≡ written o recordLength (reading .«coded_width» ∷ reading .«coded_height» ∷ [])
-      → Listed (record { status = 0; offset = 0; count = readingLength }) p
-  list-written z h n o p a b =
-      let l = readingNumbers reading in
-      let m = length-append (numbersOf (reading .«record»)) (reading .«coded_width» ∷ reading .«coded_height» ∷ []) in
-      let e : length l ≡ readingLength = omega arith in
-      let w = written-next numbers 0 recordLength (numbersOf (reading .«record»)) (reading .«coded_width» ∷ reading .«coded_height» ∷ []) o p (omega arith) h a b in
-      let s = by-outcome (ok l) (rw (eq-eqb (reading .status) 0 z, le-leb readingLength (length numbers) h)) in
-      (ap (λ (k : ℕ). record { status = 0; offset = 0; count = k }) (sym e) ∙ s .0, w ∙ sym (stored numbers 0 l (omega arith) .0) ∙ front l ∙ s .1)
-    where
-      front : (l : List ℕ) → take 0 numbers ++ (l ++ drop (0 + length l) numbers) ≡ l ++ drop (length l) numbers
-      front l = let k : 0 + length l ≡ length l = omega arith in ap (λ (j : ℕ). l ++ drop j numbers) k
+pub read-listed : (file numbers : List ℕ) (reading : Reading) (w : Written) (after : List ℕ) → reading ≡ readFile file
+    → w ≡ writtenAnswer (listed (length numbers) reading) → after ≡ writtenBuffer (listed (length numbers) reading) numbers
+    → (w .status ≡ readAnswer file numbers .status) × ((w .offset ≡ readAnswer file numbers .offset) × (after ≡ readNumbers file numbers))
+unfolding readAnswer readNumbers
+read-listed file numbers reading w after e a b =
+    let o = ap (listed (length numbers)) e in
+    let answer = a ∙ ap writtenAnswer o in
+    (ap (λ (x : Written). x .status) answer, (ap (λ (x : Written). x .offset) answer, b ∙ ap (λ (x : Outcome (List ℕ)). writtenBuffer x numbers) o))
 
 -- ---- writing
 
-module _ (numbers source out : List ℕ) where
-  abbrev Answers : Written → List ℕ → Type 0
-  Answers w after = (w ≡ writeAnswer numbers source out) × (after ≡ writeBytes numbers source out)
+module _ (numbers source out : List ℕ) (r : Record) (read : r ≡ readList numbers) (status : ℕ) (checked : status ≡ listStatus numbers r) where
+  -- the list's refusal, or as the record is written
+  abbrev judged : (status : ℕ) → Record → Outcome (List ℕ)
+  judged s x = guard (eqb s 0) s 0 >>= λ _. writeOutcome (length out) x source
 
-  of-outcome : (o : Outcome (List ℕ)) → listOutcome (length out) numbers source ≡ o → Answers (writtenAnswer o) (writtenBuffer o out)
-  unfolding writeAnswer writeBytes
-  of-outcome o e = (ap writtenAnswer (sym e), ap (λ (x : Outcome (List ℕ)). writtenBuffer x out) (sym e))
+  given : leb recordLength (length numbers) ≡ true → r ≡ recordOf numbers
+  given e = read ∙ select-true _ _ e
 
-  pub too-short : length numbers < recordLength → Answers (refusedWritten 20 0) out
+  same : leb recordLength (length numbers) ≡ true → beginsWith (numbersOf r) numbers ≡ numbersFit numbers
+  same e = ap (λ (x : Record). beginsWith (numbersOf x) numbers) (given e)
+
+  outcome : listOutcome (length out) numbers source ≡ judged status r
   unfolding listOutcome
-  too-short h = of-outcome (error 20 0) (rw (lt-leb recordLength (length numbers) h))
+  outcome = by (leb recordLength (length numbers)) (numbersFit numbers) refl refl
+    where
+      by : (long fit : Bool) → leb recordLength (length numbers) ≡ long → numbersFit numbers ≡ fit → listOutcome (length out) numbers source ≡ judged status r
+      by false fit e f = rw e (ap (λ (s : ℕ). judged s r) (sym (checked ∙ select-false _ _ e)))
+      by true true e f = rw (e, f) (ap₂ judged (sym (checked ∙ select-true _ _ e ∙ select-true _ _ (same e ∙ f))) (sym (given e)))
+      by true false e f = rw (e, f) (ap (λ (s : ℕ). judged s r) (sym (checked ∙ select-true _ _ e ∙ select-false _ _ (same e ∙ f))))
 
-  module _ (h : recordLength ≤ length numbers) (r : Record) (is : r ≡ recordOf numbers) where
-    pub not-fitting : beginsWith (numbersOf r) numbers ≡ false → Answers (refusedWritten 19 0) out
-    unfolding listOutcome
-    not-fitting f =
-        let g : numbersFit numbers ≡ false = subst (λ (x : Record). beginsWith (numbersOf x) numbers ≡ false) is f in
-        of-outcome (error 19 0) (rw (le-leb recordLength (length numbers) h, g))
+  -- status, count and the buffer after it
+  abbrev Answers : (status count : ℕ) → List ℕ → Type 0
+  Answers s n after =
+      (s ≡ writeAnswer numbers source out .status) × ((n ≡ writeAnswer numbers source out .count) × (after ≡ writeBytes numbers source out))
 
-    pub as-record : beginsWith (numbersOf r) numbers ≡ true → (w : Written) (after : List ℕ) → w ≡ writeFile r source out → after ≡ writeBuffer r source out → Answers w after
-    unfolding listOutcome writeFile writeBuffer
-    as-record f w after p q =
-        let g : numbersFit numbers ≡ true = subst (λ (x : Record). beginsWith (numbersOf x) numbers ≡ true) is f in
-        let s = of-outcome (writeOutcome (length out) (recordOf numbers) source) (rw (le-leb recordLength (length numbers) h, g)) in (
-          p ∙ ap (λ (x : Record). writtenAnswer (writeOutcome (length out) x source)) is ∙ s .0,
-          q ∙ ap (λ (x : Record). writtenBuffer (writeOutcome (length out) x source) out) is ∙ s .1,
-        )
+  of-outcome : (o : Outcome (List ℕ)) → judged status r ≡ o → Answers (writtenAnswer o .status) (writtenAnswer o .count) (writtenBuffer o out)
+  unfolding writeAnswer writeBytes
+  of-outcome o e =
+      let f = sym (outcome ∙ e) in
+      (ap (λ (x : Outcome (List ℕ)). writtenAnswer x .status) f, (ap (λ (x : Outcome (List ℕ)). writtenAnswer x .count) f, ap (λ (x : Outcome (List ℕ)). writtenBuffer x out) f))
+
+  pub list-refused : status ≢ 0 → Answers status 0 out
+  list-refused n = of-outcome (error status 0) (rw (ne-eqb status 0 n))
+
+  pub as-record : status ≡ 0 → (w : Written) (after : List ℕ) → w ≡ writeFile r source out → after ≡ writeBuffer r source out → Answers (w .status) (w .count) after
+  unfolding writeFile writeBuffer
+  as-record z w after p q =
+      let a = of-outcome (writeOutcome (length out) r source) (rw (eq-eqb status 0 z)) in
+      (ap (λ (x : Written). x .status) p ∙ a .0, (ap (λ (x : Written). x .count) p ∙ a .1 .0, q ∙ a .1 .1))
 
 -- ---- an entry by its index
 

@@ -1,6 +1,4 @@
--- Laws of the lists of numbers, and of the calls over them.
-pub mod NumberLaws
+-- Laws of the calls for C and Rust.
 pub mod CallLaws
-pub mod RecordLists
 pub mod ReadTyped
 pub mod Theorems

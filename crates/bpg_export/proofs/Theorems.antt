@@ -1,124 +1,40 @@
--- The theorems of the lists. Assumes nothing.
-use mathlib.Core.Path.{_≡_, refl, sym, ap, ap₂, _∙_, subst}
-use mathlib.Core.Logic.{_↔_}
-use mathlib.Core.Bool.{Bool, true, false, _&&_}
+-- The theorems of the calls over lists. Assumes nothing.
+use mathlib.Core.Path.{_≡_, ap, _∙_}
 use mathlib.Core.List.{List, [], _∷_, _++_, append-assoc}
-use Prim.Native.Nat.{ℕ, zero, suc, _+_, _%_, _^_, _≤_, _<_}
+use Prim.Native.Nat.{ℕ, _≤_}
 use native.Mathlib.Omega.{arith}
-use lib.Dec.{leb, eqb, eqb→eq, T}
 use lib.ListN.{length, drop, length-append}
-use borrow.Author.Tests.{le-leb, eq-eqb}
-use Rattle.bpg_codec.specs.Bits.{bit}
-use Rattle.bpg_codec.specs.Lawful.{All}
-use Rattle.bpg_codec.specs.Outcome.{Outcome, ok}
-use Rattle.bpg_format.specs.declared.record.Entry.{Entry}
+use borrow.Author.Tests.{le-leb}
+use Rattle.bpg_codec.specs.Outcome.{Outcome}
 use Rattle.bpg_format.specs.declared.record.Record.{Record}
-use Rattle.bpg_format.specs.declared.answer.Reading.{Reading}
 use Rattle.bpg_format.specs.Records.{readFile}
 use Rattle.bpg_format.specs.Write.{writeOutcome, writtenAnswer, writtenBuffer, writeFile, writeBuffer}
-use Rattle.bpg_export.specs.Numbers.{recordLength, readingLength, entryNumbers, numbersOf, readingNumbers, entriesAt, rangeFlagsAt, headerAt, recordOf, beginsWith, numbersFit}
-use Rattle.bpg_export.specs.Typing.{OfBits, TypedHeader, TypedRecord}
-use Rattle.bpg_export.specs.Calls.{listed, readAnswer, readNumbers, listOutcome, writeAnswer, writeBytes}
-use Rattle.bpg_export.specs.Theorems.{ListOf, ListTheorems}
-use Rattle.bpg_export.proofs.RecordLists.{record-back, numbers-fit, numbers-length}
+use Rattle.bpg_list.specs.Numbers.{recordLength, numbersOf, readingNumbers}
+use Rattle.bpg_list.specs.Typing.{TypedRecord}
+use Rattle.bpg_list.specs.Theorems.{ListOf}
+use Rattle.bpg_list.proofs.WriteLaws.{listed-ok}
+use Rattle.bpg_list.proofs.RecordLists.{numbers-length}
+use Rattle.bpg_list.proofs.Theorems.{list-theorems}
+use Rattle.bpg_export.specs.Calls.{readAnswer, readNumbers, listOutcome, writeAnswer, writeBytes}
+use Rattle.bpg_export.specs.Theorems.{CallTheorems}
 use Rattle.bpg_export.proofs.ReadTyped.{read-typed}
-
--- ---- the record of any list is one that its types hold
-
-word : (n : ℕ) → n % 2 ^ 32 < 2 ^ 32
-word n = omega arith
-
-short : (n : ℕ) → n % 2 ^ 16 < 2 ^ 16
-short n = omega arith
-
-byte : (n : ℕ) → n % 2 ^ 8 < 2 ^ 8
-byte n = omega arith
-
-entries-typed : (l : List ℕ) (k n : ℕ) → All (λ (e : Entry). OfBits 32 (entryNumbers e)) (entriesAt l k n)
-unfolding entriesAt
-entries-typed l k zero = tt
-entries-typed l k (suc n) = ((word _, (word _, (word _, tt))), entries-typed l (k + 3) n)
-
-header-typed : (l : List ℕ) (k : ℕ) → TypedHeader (headerAt l k)
-unfolding headerAt rangeFlagsAt
-header-typed l k =
-    record {
-      blocks = (word _, (word _, (word _, (word _, (word _, tt)))));
-      pcm-blocks = (word _, (word _, tt));
-      depths = (byte _, (byte _, tt));
-      seven-bits = byte _;
-      nine = refl;
-    }
-
-entries-sixteen : (l : List ℕ) → length (entriesAt l 12 16) ≡ 16
-unfolding entriesAt
-entries-sixteen l = refl
-
-pub any-typed : (l : List ℕ) → TypedRecord (recordOf l)
-unfolding recordOf
-any-typed l =
-    record {
-      flags = (byte _, (byte _, (byte _, tt)));
-      size = (word _, (word _, (word _, tt)));
-      entries = entries-typed l 12 16;
-      sixteen = entries-sixteen l;
-      loop = (short _, (short _, (short _, tt)));
-      headers = (header-typed l 63, (header-typed l 88, tt));
-      two = refl;
-      data-range = (word _, (word _, tt));
-    }
-
--- ---- a list that fits
-
-and-true : (s t : Bool) → (s && t) ≡ true → (s ≡ true) × (t ≡ true)
-and-true true t e = (refl, e)
-and-true false t e = absurd (omega (arith, ap bit e))
-
-same : (x y : ℕ) → eqb x y ≡ true → y ≡ x
-same x y e = sym (eqb→eq x y (subst T (sym e) tt))
-
-begins-sound : (a l : List ℕ) → beginsWith a l ≡ true → (rest : List ℕ) × (l ≡ a ++ rest)
-unfolding beginsWith
-begins-sound [] l e = (l, refl)
-begins-sound (x ∷ a) [] e = absurd (omega (arith, ap bit e))
-begins-sound (x ∷ a) (y ∷ l) e =
-    let b = and-true (eqb x y) (beginsWith a l) e in
-    let r = begins-sound a l (b .1) in
-    (r .0, ap₂ (λ (n : ℕ) (m : List ℕ). n ∷ m) (same x y (b .0)) (r .1))
-
-back : (r : Record) (l : List ℕ) → TypedRecord r → ListOf r l → recordOf l ≡ r
-back r l t o = ap recordOf (o .1) ∙ record-back r (o .0) t
-
-fits : (r : Record) (l : List ℕ) → TypedRecord r → ListOf r l → numbersFit l ≡ true
-fits r l t o = ap (λ (m : List ℕ). numbersFit m) (o .1) ∙ numbers-fit r (o .0) t
-
-fitting : (l : List ℕ) → (numbersFit l ≡ true) ↔ ((r : Record) × TypedRecord r × ListOf r l)
-fitting l = (λ e. (recordOf l, any-typed l, begins-sound (numbersOf (recordOf l)) l e), λ x. fits (x .0) l (x .1) (x .2))
 
 -- ---- writing
 
-module _ (r : Record) (l source : List ℕ) (t : TypedRecord r) (o : ListOf r l) where
+module _ (r : Record) (l source out : List ℕ) (t : TypedRecord r) (o : ListOf r l) where
   long : recordLength ≤ length l
   long = omega (arith, ap length (o .1), length-append (numbersOf r) (o .0), numbers-length r (o .0) t)
 
-  outcome : (capacity : ℕ) → listOutcome capacity l source ≡ writeOutcome capacity r source
+  outcome : listOutcome (length out) l source ≡ writeOutcome (length out) r source
   unfolding listOutcome
-  outcome capacity =
-      rw (le-leb recordLength (length l) long, fits r l t o) (ap (λ (x : Record). writeOutcome capacity x source) (back r l t o))
+  outcome =
+      rw (le-leb recordLength (length l) long, list-theorems .fitting l .1 (r, t, o)) (ap (λ (x : Record). writeOutcome (length out) x source) (list-theorems .back r l t o))
 
-  written : (out : List ℕ) → (writeAnswer l source out ≡ writeFile r source out) × (writeBytes l source out ≡ writeBuffer r source out)
+  written : (writeAnswer l source out ≡ writeFile r source out) × (writeBytes l source out ≡ writeBuffer r source out)
   unfolding writeAnswer writeBytes writeFile writeBuffer
-  written out = (ap writtenAnswer (outcome (length out)), ap (λ (x : Outcome (List ℕ)). writtenBuffer x out) (outcome (length out)))
+  written = (ap writtenAnswer outcome, ap (λ (x : Outcome (List ℕ)). writtenBuffer x out) outcome)
 
 -- ---- a list that was read
-
-listed-ok : (n : ℕ) (r : Reading) → writtenAnswer (listed n r) .status ≡ 0 → listed n r ≡ ok (readingNumbers r)
-listed-ok n r z = by (eqb (r .status) 0) (leb readingLength n) refl refl
-  where
-    by : (s t : Bool) → eqb (r .status) 0 ≡ s → leb readingLength n ≡ t → listed n r ≡ ok (readingNumbers r)
-    by true true e f = rw (e, f)
-    by true false e f = absurd (omega (arith, rw (e, f) at z))
-    by false t e f = absurd (omega (arith, ap bit (sym e ∙ eq-eqb (r .status) 0 (rw e at z))))
 
 read : (f numbers : List ℕ) → readAnswer f numbers .status ≡ 0 → ListOf (readFile f .«record») (readNumbers f numbers)
 unfolding readAnswer readNumbers
@@ -128,12 +44,5 @@ read f numbers z =
     let rest = drop (length (readingNumbers r)) numbers in
     (coded ++ rest, ap (λ (x : Outcome (List ℕ)). writtenBuffer x numbers) (listed-ok (length numbers) r z) ∙ append-assoc (numbersOf (r .«record»)) coded rest)
 
-pub list-theorems : ListTheorems
-list-theorems =
-    record {
-      back = back;
-      fitting = fitting;
-      written = λ r l source out t o. written r l source t o out;
-      reading = read-typed;
-      read = read;
-    }
+pub call-theorems : CallTheorems
+call-theorems = record { written = written; reading = read-typed; read = read }

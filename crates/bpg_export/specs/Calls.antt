@@ -1,23 +1,16 @@
--- What the calls for C and Rust answer. A list of numbers is lent as a buffer is: a success writes it from the start, a refusal leaves it
--- as it was (document 01: a lent list is room too).
+-- What the calls for C and Rust answer, a record being a list of numbers.
 use mathlib.Core.List.{List}
 use Prim.Native.Nat.{ℕ}
-use lib.Dec.{leb, eqb}
+use lib.Dec.{leb}
 use lib.ListN.{length}
-use Rattle.bpg_codec.specs.Outcome.{Outcome, ok, _>>=_, guard}
-use Rattle.bpg_format.specs.declared.answer.Reading.{Reading}
+use Rattle.bpg_codec.specs.Outcome.{Outcome, _>>=_, guard}
 use Rattle.bpg_format.specs.declared.answer.Written.{Written}
 use Rattle.bpg_format.specs.Records.{readFile}
 use Rattle.bpg_format.specs.Write.{writeOutcome, writtenAnswer, writtenBuffer}
-use Rattle.bpg_export.specs.Numbers.{recordLength, readingLength, readingNumbers, recordOf, numbersFit}
+use Rattle.bpg_list.specs.Numbers.{recordLength, recordOf, numbersFit}
+use Rattle.bpg_list.specs.Calls.{listed}
 
 -- ---- reading: the file's refusals, then 20 for a list that is too short
-
-abbrev pub listed : (capacity : ℕ) → Reading → Outcome (List ℕ)
-listed capacity r =
-    guard (eqb (r .status) 0) (r .status) (r .offset) >>= λ _.
-    guard (leb readingLength capacity) 20 0 >>= λ _.
-    ok (readingNumbers r)
 
 -- status, offset and how many numbers were written
 unfoldable pub readAnswer : (f numbers : List ℕ) → Written

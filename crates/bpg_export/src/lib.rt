@@ -1,8 +1,4 @@
 // The library for C and Rust: numbers and slices alone. include/bpg.h declares these functions for C.
-mod file;
-mod list;
-mod record;
-
 use bpg_reader::EntryAt;
 ghost use mathlib.Core.Path.{_≡_};
 ghost use lib.Dec.{ltb};
@@ -18,9 +14,10 @@ pub extern "C" fn bpg_read(file: &[u8], numbers: &mut [u64], offset: &mut usize)
     ensures { λ _. ⌜ now (offset .exit) ≡ readAnswer (now (file .entry)) (now (numbers .entry)) .offset ⌝ }
     ensures { λ _. ⌜ now (numbers .exit) ≡ readNumbers (now (file .entry)) (now (numbers .entry)) ⌝ }
 {
-    let read = file::read(file, numbers);
-    *offset = read.offset;
-    read.status
+    let reading = bpg_reader::read(file);
+    let listed = bpg_list::write(reading, numbers);
+    *offset = listed.offset;
+    listed.status
 }
 
 // Tag and range of entry k, from 0; false and zeros where there is none. A refused file has no entry.
@@ -60,7 +57,13 @@ pub extern "C" fn bpg_write(numbers: &[u64], source: &[u8], out: &mut [u8], coun
     ensures { λ _. ⌜ now (count .exit) ≡ writeAnswer (now (numbers .entry)) (now (source .entry)) (now (out .entry)) .count ⌝ }
     ensures { λ _. ⌜ now (out .exit) ≡ writeBytes (now (numbers .entry)) (now (source .entry)) (now (out .entry)) ⌝ }
 {
-    let written = file::write(numbers, source, out);
+    let record = bpg_list::read(numbers);
+    let status = bpg_list::check(numbers, record);
+    if status != 0 {
+        *count = 0;
+        return status;
+    }
+    let written = bpg_writer::write(record, source, out);
     *count = written.count;
     written.status
 }

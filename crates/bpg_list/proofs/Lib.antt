@@ -1,0 +1,5 @@
+-- Laws of the lists of numbers, and of writing them.
+pub mod NumberLaws
+pub mod WriteLaws
+pub mod RecordLists
+pub mod Theorems

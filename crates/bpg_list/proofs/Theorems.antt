@@ -1,0 +1,92 @@
+-- The theorems of the lists. Assumes nothing.
+use mathlib.Core.Path.{_≡_, refl, sym, ap, ap₂, _∙_, subst}
+use mathlib.Core.Logic.{_↔_}
+use mathlib.Core.Bool.{Bool, true, false, _&&_}
+use mathlib.Core.List.{List, [], _∷_, _++_}
+use Prim.Native.Nat.{ℕ, zero, suc, _+_, _%_, _^_, _<_}
+use native.Mathlib.Omega.{arith}
+use lib.Dec.{eqb, eqb→eq, T}
+use lib.ListN.{length}
+use Rattle.bpg_codec.specs.Bits.{bit}
+use Rattle.bpg_codec.specs.Lawful.{All}
+use Rattle.bpg_format.specs.declared.record.Entry.{Entry}
+use Rattle.bpg_format.specs.declared.record.Record.{Record}
+use Rattle.bpg_list.specs.Numbers.{entryNumbers, numbersOf, entriesAt, rangeFlagsAt, headerAt, recordOf, beginsWith, numbersFit}
+use Rattle.bpg_list.specs.Typing.{OfBits, TypedHeader, TypedRecord}
+use Rattle.bpg_list.specs.Theorems.{ListOf, ListTheorems}
+use Rattle.bpg_list.proofs.RecordLists.{record-back, numbers-fit}
+
+-- ---- the record of any list is one that its types hold
+
+word : (n : ℕ) → n % 2 ^ 32 < 2 ^ 32
+word n = omega arith
+
+short : (n : ℕ) → n % 2 ^ 16 < 2 ^ 16
+short n = omega arith
+
+byte : (n : ℕ) → n % 2 ^ 8 < 2 ^ 8
+byte n = omega arith
+
+entries-typed : (l : List ℕ) (k n : ℕ) → All (λ (e : Entry). OfBits 32 (entryNumbers e)) (entriesAt l k n)
+unfolding entriesAt
+entries-typed l k zero = tt
+entries-typed l k (suc n) = ((word _, (word _, (word _, tt))), entries-typed l (k + 3) n)
+
+header-typed : (l : List ℕ) (k : ℕ) → TypedHeader (headerAt l k)
+unfolding headerAt rangeFlagsAt
+header-typed l k =
+    record {
+      blocks = (word _, (word _, (word _, (word _, (word _, tt)))));
+      pcm-blocks = (word _, (word _, tt));
+      depths = (byte _, (byte _, tt));
+      seven-bits = byte _;
+      nine = refl;
+    }
+
+entries-sixteen : (l : List ℕ) → length (entriesAt l 12 16) ≡ 16
+unfolding entriesAt
+entries-sixteen l = refl
+
+any-typed : (l : List ℕ) → TypedRecord (recordOf l)
+unfolding recordOf
+any-typed l =
+    record {
+      flags = (byte _, (byte _, (byte _, tt)));
+      size = (word _, (word _, (word _, tt)));
+      entries = entries-typed l 12 16;
+      sixteen = entries-sixteen l;
+      loop = (short _, (short _, (short _, tt)));
+      headers = (header-typed l 63, (header-typed l 88, tt));
+      two = refl;
+      data-range = (word _, (word _, tt));
+    }
+
+-- ---- a list that fits
+
+and-true : (s t : Bool) → (s && t) ≡ true → (s ≡ true) × (t ≡ true)
+and-true true t e = (refl, e)
+and-true false t e = absurd (omega (arith, ap bit e))
+
+same : (x y : ℕ) → eqb x y ≡ true → y ≡ x
+same x y e = sym (eqb→eq x y (subst T (sym e) tt))
+
+begins-sound : (a l : List ℕ) → beginsWith a l ≡ true → (rest : List ℕ) × (l ≡ a ++ rest)
+unfolding beginsWith
+begins-sound [] l e = (l, refl)
+begins-sound (x ∷ a) [] e = absurd (omega (arith, ap bit e))
+begins-sound (x ∷ a) (y ∷ l) e =
+    let b = and-true (eqb x y) (beginsWith a l) e in
+    let r = begins-sound a l (b .1) in
+    (r .0, ap₂ (λ (n : ℕ) (m : List ℕ). n ∷ m) (same x y (b .0)) (r .1))
+
+back : (r : Record) (l : List ℕ) → TypedRecord r → ListOf r l → recordOf l ≡ r
+back r l t o = ap recordOf (o .1) ∙ record-back r (o .0) t
+
+fits : (r : Record) (l : List ℕ) → TypedRecord r → ListOf r l → numbersFit l ≡ true
+fits r l t o = ap (λ (m : List ℕ). numbersFit m) (o .1) ∙ numbers-fit r (o .0) t
+
+fitting : (l : List ℕ) → (numbersFit l ≡ true) ↔ ((r : Record) × TypedRecord r × ListOf r l)
+fitting l = (λ e. (recordOf l, any-typed l, begins-sound (numbersOf (recordOf l)) l e), λ x. fits (x .0) l (x .1) (x .2))
+
+pub list-theorems : ListTheorems
+list-theorems = record { back = back; fitting = fitting }

@@ -1,0 +1,112 @@
+-- `list::put_entries` meets its contract: the entries so far are written. Assumes nothing.
+use mathlib.Core.Path.{_≡_, sym, ap, _∙_}
+use mathlib.Core.List.{List}
+use Prim.Native.Nat.{ℕ, _-_, _≤_}
+use native.Mathlib.Omega.{arith}
+use lib.ListN.{length, take, length-map}
+use borrow.Author.Needs.{needs}
+use Rattle.bpg_codec.specs.Buffer.{written}
+use Rattle.bpg_format.specs.declared.record.Entry.{Entry}
+use Rattle.bpg_format.proofs.record.Entry as entry-type
+use Rattle.bpg_list.specs.Numbers.{entriesNumbers}
+use Rattle.bpg_list.proofs.NumberLaws.{written-length, written-none, first-length, entry-written, entries-written}
+use Rattle.bpg_list.proofs.list.put_entries.Statement.{statement}
+use Rattle.bpg_list.proofs.list.put_entries.Tie as tie
+
+abbrev Inv-loop : tie.InvT-loop
+Inv-loop out₀ «record» k₀ out k = (k ≤ 16) × (out ≡ written out₀ 12 (entriesNumbers (take k («record» .entries))))
+
+abbrev μ-loop : tie.MeasureT-loop
+μ-loop out₀ «record» k₀ out k = 16 - k
+
+-- where the loop began
+module _ (s : tie.Start Inv-loop μ-loop) where
+  abbrev es : List Entry
+  es = s .args .t2 .entries
+
+  sixteen : length es ≡ 16
+  sixteen = sym (length-map es (entry-type.the-field .into)) ∙ s .good .1 .0 .1 .1 .1 .1 .1 .1 .1 .1 .1 .1 .1 .1 .1 .1 .0 .1 .0 .1
+
+  abbrev out : List ℕ
+  out = s .args .out .now
+
+none : (l : List ℕ) (es : List Entry) → 60 ≤ length l → l ≡ written l 12 (entriesNumbers (take 0 es))
+unfolding entriesNumbers
+none l es h = written-none l 12 (omega arith)
+
+loop-holds : tie.Need-loop-holds Inv-loop μ-loop
+loop-holds c = let s = c .before in (omega arith, none (out s) (es s) (s .pre))
+
+mul-entry : tie.Need-mul-entry Inv-loop μ-loop
+mul-entry c = omega arith
+
+element-copy-out-entry : tie.Need-element-copy-out-entry Inv-loop μ-loop
+element-copy-out-entry c = omega (arith, sixteen (c .before .before .before))
+
+cast-t12 : tie.Need-cast-t12 Inv-loop μ-loop
+cast-t12 c = search needs
+
+cast-t13 : tie.Need-cast-t13 Inv-loop μ-loop
+cast-t13 c = search needs
+
+cast-t14 : tie.Need-cast-t14 Inv-loop μ-loop
+cast-t14 c = search needs
+
+mul-put : tie.Need-mul-put Inv-loop μ-loop
+mul-put c = omega arith
+
+add-put : tie.Need-add-put Inv-loop μ-loop
+add-put c = omega arith
+
+slice-aggregate-put : tie.Need-slice-aggregate-put Inv-loop μ-loop
+slice-aggregate-put c = search needs
+
+put-requires : tie.Need-put-requires Inv-loop μ-loop
+put-requires c κs = search needs
+
+add-k : tie.Need-add-k Inv-loop μ-loop
+add-k c = omega arith
+
+loop-less : tie.Need-loop-less Inv-loop μ-loop
+loop-less c = omega arith
+
+loop-again : tie.Need-loop-again Inv-loop μ-loop
+loop-again c =
+    let w = c .before .before in
+    let t = w .before .before .before .before .before .before .before in
+    let s = t .before .before .before in
+    (omega (arith, t .loop-test .taken), entry-written (out s) (es s) (sixteen s) (s .pre) (t .before .loop .k) _ (t .before .loop .out) _ (t .loop-test .taken) (t .before .loop .inv .1) (w .put .ensures))
+
+same-length : tie.Need-same-length Inv-loop μ-loop
+same-length c =
+    let s = c .before .before .before in
+    let k = c .before .loop .k in
+    ap length (c .before .loop .inv .1)
+    ∙ written-length (out s) 12 (entriesNumbers (take k (es s))) (omega (arith, s .pre, c .before .loop .inv .0, first-length (out s) (es s) (sixteen s) (s .pre) k (c .before .loop .inv .0)))
+
+returns : tie.Need-returns Inv-loop μ-loop
+returns c =
+    let s = c .before .before .before in
+    entries-written (out s) (es s) (sixteen s) (s .pre) (c .before .loop .k) _ (omega (arith, c .loop-test .left, c .before .loop .inv .0)) (c .before .loop .inv .1)
+
+pub put-entries-spec : {M : Type 1} → statement M
+put-entries-spec =
+    tie.close
+    (tie.spec
+    Inv-loop
+    μ-loop
+    loop-holds
+    mul-entry
+    element-copy-out-entry
+    cast-t12
+    cast-t13
+    cast-t14
+    mul-put
+    add-put
+    slice-aggregate-put
+    put-requires
+    add-k
+    loop-less
+    loop-again
+    same-length
+    returns)

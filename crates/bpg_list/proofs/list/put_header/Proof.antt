@@ -1,0 +1,30 @@
+-- `list::put_header` meets its contract. Assumes nothing.
+use mathlib.Core.Path.{ap, _∙_}
+use Rattle.bpg_codec.specs.Buffer.{written}
+use borrow.Author.Needs.{needs}
+use Rattle.bpg_list.proofs.list.put_header.Statement.{statement}
+use Rattle.bpg_list.proofs.list.put_header.Tie as tie
+
+header-numbers-requires : tie.Need-header-numbers-requires
+header-numbers-requires c κs = search needs
+
+slice-aggregate-put : tie.Need-slice-aggregate-put
+slice-aggregate-put c = search needs
+
+put-requires : tie.Need-put-requires
+put-requires c κs = search needs
+
+same-length : tie.Need-same-length
+same-length c = search needs
+
+returns : tie.Need-returns
+returns c =
+    let w = c .before .before in
+    let h = w .before .before .before in
+    let a = h .before .before .args in
+    (w .put .ensures ∙ ap (written (a .out .now) (a .at)) (h .header-numbers .ensures .0), h .header-numbers .ensures .1)
+
+pub put-header-spec : {M : Type 1} → statement M
+put-header-spec =
+    tie.close
+    (tie.spec header-numbers-requires slice-aggregate-put put-requires same-length returns)
