@@ -3,11 +3,10 @@ use mathlib.Core.Path.{_≡_, refl, sym, ap, ap₂, _∙_}
 use mathlib.Core.Bool.{Bool, true, false, _&&_, and-false, and-assoc}
 use mathlib.Core.List.{List, [], _∷_, _++_, map, append-assoc, append-nil}
 use Prim.Native.Nat.{ℕ, zero, suc, _+_, _*_, _≤_, _<_}
-use native.Mathlib.Nat.{add-zero}
 use native.Mathlib.Numerals.{add-one}
 use native.Mathlib.Omega.{arith}
 use lib.Dec.{eqb}
-use lib.ListN.{length, take, drop, getD, length-append, length-map, take-append-drop, drop-of-length-le}
+use lib.ListN.{length, take, drop, getD, length-append, length-map, drop-of-length-le}
 use lib.Seq.{length-take-le, take-all, drop-length, take-suc, drop-cons}
 use mir.Val.{boolByte}
 use Rattle.bpg_codec.specs.Bits.{bit}
@@ -80,9 +79,6 @@ two-headers hs d = by-length 2 (λ l. headersNumbers l ≡ headerNumbers (getD l
 module _ (out : List ℕ) where
   pub written-length : (at : ℕ) (l : List ℕ) → at + length l ≤ length out → length (written out at l) ≡ length out
   written-length at l h = ap length (sym (stored out at l h .0)) ∙ length-splice out at l h
-
-  pub written-none : (at : ℕ) → at ≤ length out → out ≡ written out at []
-  written-none at h = sym (simp (add-zero, take-append-drop)) ∙ stored out at [] (omega arith) .0
 
   -- numbers are written from `at` to n, and then these
   pub written-next : (at n : ℕ) (l m o p : List ℕ) → at + length l ≡ n → n + length m ≤ length out → o ≡ written out at l → p ≡ written o n m

@@ -1,5 +1,5 @@
--- What the calls over lists of numbers answer. A list is lent as a buffer is: a success writes it from the start, a refusal leaves it as it
--- was (document 01: a lent list is room too).
+-- What the calls over lists of numbers answer. A list is a buffer: a success writes it from the start, a refusal leaves it as it was
+-- (document 01: a lent list is room too).
 use mathlib.Core.List.{List}
 use Prim.Native.Nat.{ℕ}
 use lib.Dec.{leb, eqb}

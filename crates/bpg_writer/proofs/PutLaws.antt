@@ -4,11 +4,11 @@ use mathlib.Core.Bool.{Bool, true, false}
 use mathlib.Core.List.{List, [], _++_, append-assoc}
 use Prim.Native.Nat.{ℕ, _+_, _≤_}
 use native.Mathlib.Omega.{arith}
-use lib.ListN.{length, take, drop, length-append, take-append-drop}
+use lib.ListN.{length, length-append}
 use Rattle.bpg_codec.specs.Select.{select}
 use Rattle.bpg_codec.specs.Buffer.{written, writtenEnd}
 use Rattle.bpg_codec.proofs.Select.{select-true, select-false}
-use Rattle.bpg_codec.proofs.Buffer.{length-splice, stored, written-written}
+use Rattle.bpg_codec.proofs.Buffer.{length-splice, stored, stored-none, written-written}
 
 -- what a write answers: the buffer after it, and the offset after what was written
 abbrev pub Put : (out : List ℕ) (at : ℕ) (l after : List ℕ) (end : ℕ) → Type 0
@@ -21,10 +21,7 @@ module _ (out : List ℕ) (at : ℕ) where
       (p .1 ∙ sym (s .1), ap length (p .0 ∙ sym (s .0)) ∙ length-splice out at l h)
 
   pub put-none : at ≤ length out → Put out at [] out at
-  put-none h =
-      let s = stored out at [] (omega arith) in
-      let z : at + 0 ≡ at = omega arith in
-      (sym (take-append-drop at out) ∙ ap (λ (k : ℕ). take at out ++ drop k out) (sym z) ∙ s .0, sym z ∙ s .1)
+  put-none = stored-none out at
 
   -- a part that is left out
   pub put-absent : (t : Bool) (l : List ℕ) → t ≡ false → at + length (select t l []) ≤ length out → Put out at (select t l []) out at

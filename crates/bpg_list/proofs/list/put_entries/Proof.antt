@@ -6,10 +6,11 @@ use native.Mathlib.Omega.{arith}
 use lib.ListN.{length, take, length-map}
 use borrow.Author.Needs.{needs}
 use Rattle.bpg_codec.specs.Buffer.{written}
+use Rattle.bpg_codec.proofs.Buffer.{stored-none}
 use Rattle.bpg_format.specs.declared.record.Entry.{Entry}
 use Rattle.bpg_format.proofs.record.Entry as entry-type
 use Rattle.bpg_list.specs.Numbers.{entriesNumbers}
-use Rattle.bpg_list.proofs.NumberLaws.{written-length, written-none, first-length, entry-written, entries-written}
+use Rattle.bpg_list.proofs.NumberLaws.{written-length, first-length, entry-written, entries-written}
 use Rattle.bpg_list.proofs.list.put_entries.Statement.{statement}
 use Rattle.bpg_list.proofs.list.put_entries.Tie as tie
 
@@ -32,7 +33,7 @@ module _ (s : tie.Start Inv-loop μ-loop) where
 
 none : (l : List ℕ) (es : List Entry) → 60 ≤ length l → l ≡ written l 12 (entriesNumbers (take 0 es))
 unfolding entriesNumbers
-none l es h = written-none l 12 (omega arith)
+none l es h = stored-none l 12 (omega arith) .0
 
 loop-holds : tie.Need-loop-holds Inv-loop μ-loop
 loop-holds c = let s = c .before in (omega arith, none (out s) (es s) (s .pre))
