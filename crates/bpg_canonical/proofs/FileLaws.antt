@@ -21,14 +21,12 @@ use Rattle.bpg_format.specs.Syntax.{fileOf}
 use Rattle.bpg_format.specs.Rules.{Rules}
 use Rattle.bpg_format.specs.Read.{readContent}
 use Rattle.bpg_format.specs.Records.{recordOf, answerOf, readFile}
-use Rattle.bpg_format.specs.Write.{sizedFile, writeOutcome, writtenAnswer, writtenBuffer, writeFile, writeBuffer}
+use Rattle.bpg_format.specs.Write.{sizedFile, writeOutcome, writtenAnswer, writtenBuffer, writeFile, writeBuffer, checkRecord}
 use Rattle.bpg_format.specs.Pictures.{canonicalContent, canonicalBytes, canonicalOutcome, canonicalFile, canonicalBuffer}
 use Rattle.bpg_format.proofs.Reading.{read-is}
 use Rattle.bpg_format.proofs.ReadingRefusals.{content-refuses}
 use Rattle.bpg_format.proofs.CanonicalLaws.{canonical-rules}
-use Rattle.bpg_format.proofs.Writing.{written-full}
-use Rattle.bpg_check.specs.Check.{checkRecord}
-use Rattle.bpg_check.proofs.Judgement.{write-checks}
+use Rattle.bpg_format.proofs.Writing.{written-full, write-checks}
 use Rattle.bpg_choices.specs.Records.{canonicalRecord}
 use Rattle.bpg_canonical.proofs.ContentLaws.{canonical-content, canonical-writable}
 

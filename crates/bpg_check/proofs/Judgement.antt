@@ -1,42 +1,25 @@
--- Judging a record is the first part of writing it: a record that passes is refused for its size alone, and one that does not is refused
--- with the status that judging answers. Assumes nothing.
+-- The status of a record is that of the first rule that is broken, and 0 where none is. Assumes nothing.
 use mathlib.Core.Path.{_≡_, sym, ap, _∙_}
-use mathlib.Core.Bool.{true, false, _&&_}
+use mathlib.Core.Bool.{true, false}
 use mathlib.Core.Logic.{_≢_}
 use mathlib.Core.List.{List}
 use Prim.Native.Nat.{ℕ, _≤_, _<_}
-use native.Mathlib.Omega.{arith}
-use lib.Dec.{leb}
 use borrow.Author.Tests.{le-leb, lt-leb}
-use Rattle.bpg_codec.specs.Outcome.{ok, error, _>>=_}
-use Rattle.bpg_codec.proofs.Outcome.{bind-assoc}
+use Rattle.bpg_codec.specs.Outcome.{ok, error}
 use Rattle.bpg_format.specs.Limits.{maxEntries}
 use Rattle.bpg_format.specs.declared.record.Record.{Record}
 use Rattle.bpg_format.specs.Records.{contentOf}
-use Rattle.bpg_format.specs.Write.{rangesInSource, unusedZero, consistent, checkContent, sizedFile, writeOutcome, WritingStatus}
-use Rattle.bpg_format.proofs.WritingRefusals.{rule, content-check}
-use Rattle.bpg_check.specs.Check.{checkRecord, statusOf, checkStatus}
+use Rattle.bpg_format.specs.Write.{rangesInSource, unusedZero, consistent, checkContent, checkRecord}
+use Rattle.bpg_format.proofs.WritingRefusals.{record-check}
+use Rattle.bpg_check.specs.Check.{statusOf, checkStatus}
 use Rattle.bpg_check.proofs.StatusLaws.{passes, refuses}
 
-pub write-checks : (capacity : ℕ) (r : Record) (source : List ℕ)
-    → writeOutcome capacity r source ≡ (checkRecord r source >>= λ _. sizedFile capacity (contentOf r source))
-unfolding writeOutcome checkRecord
-write-checks capacity r source = simp bind-assoc
-
 module _ (r : Record) (source : List ℕ) where
-  -- each refusal is one of document 01's for writing, at offset 0
-  pub check-statuses : (s o : ℕ) → checkRecord r source ≡ error s o → WritingStatus s × (o ≡ 0)
-  unfolding checkRecord
-  check-statuses =
-      rule (leb (r .«entry_count») maxEntries) 11 _ (omega arith)
-      (rule (rangesInSource source r) 18 _ (omega arith)
-      (rule (unusedZero r && consistent (contentOf r source)) 19 _ (omega arith) (content-check (contentOf r source))))
-
   pub check-passes : checkStatus r source ≡ 0 → checkRecord r source ≡ ok tt
-  check-passes z = passes (checkRecord r source) check-statuses z
+  check-passes z = passes (checkRecord r source) (record-check r source) z
 
   pub check-refuses : (s : ℕ) → checkStatus r source ≡ s → s ≢ 0 → checkRecord r source ≡ error s 0
-  check-refuses s e n = refuses (checkRecord r source) check-statuses (λ z. n (sym e ∙ z)) ∙ ap (λ (x : ℕ). error x 0) e
+  check-refuses s e n = refuses (checkRecord r source) (record-check r source) (λ z. n (sym e ∙ z)) ∙ ap (λ (x : ℕ). error x 0) e
 
 -- ---- by the first rule that is broken
 

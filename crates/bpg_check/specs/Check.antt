@@ -7,23 +7,13 @@ use lib.ListN.{getD}
 use Rattle.bpg_codec.specs.Select.{select}
 use Rattle.bpg_codec.specs.Outcome.{Outcome, ok, error, _>>=_, guard}
 use Rattle.bpg_numbers.specs.Ue7.{notZero}
-use Rattle.bpg_format.specs.Limits.{maxEntries}
 use Rattle.bpg_format.specs.declared.record.Record.{Record}
 use Rattle.bpg_format.specs.Zero.{zeroHeader}
 use Rattle.bpg_format.specs.Content.{Extension, Loop, Content, hasAlpha, bitDepth}
 use Rattle.bpg_format.specs.Rules.{isLoop, hasLoop}
 use Rattle.bpg_format.specs.FileCodec.{colorSpaceAllowed}
-use Rattle.bpg_format.specs.Records.{contentOf}
-use Rattle.bpg_format.specs.Write.{rangesInSource, unusedZero, consistent, checkLoop, checkHeader, checkContent}
+use Rattle.bpg_format.specs.Write.{checkLoop, checkHeader, checkRecord}
 use Rattle.bpg_entries.specs.declared.animation.Animation.{Animation}
-
--- the writer's refusals but for those of size
-unfoldable pub checkRecord : Record → List ℕ → Outcome (Unit {0})
-checkRecord r source =
-    guard (leb (r .«entry_count») maxEntries) 11 0 >>= λ _.
-    guard (rangesInSource source r) 18 0 >>= λ _.
-    guard (unusedZero r && consistent (contentOf r source)) 19 0 >>= λ _.
-    checkContent (contentOf r source)
 
 -- 0, or the error's status
 abbrev pub statusOf : {A : Type 0} → Outcome A → ℕ

@@ -14,7 +14,7 @@ use Rattle.bpg_format.specs.FileCodec.{readFlags, loopIn, loopOf, loopNu
 use Rattle.bpg_format.specs.Read.{readLoop, readEntry, readEntries, readBlock, readSizes, readPcm, readSps, readFields, readHeader, readAlphaHeader, readContent}
 use Rattle.bpg_format.specs.Records.{headEnd, blockStart, dataStart, recordOf, contentOf, readFile}
 use Rattle.bpg_format.specs.Parts.{entryOf}
-use Rattle.bpg_format.specs.Write.{rangesInSource, unusedZero, absentZero, headerZero, consistent, checkLoop, checkEntries, fieldsCoded, checkHeader, checkContent, sizedFile, writeOutcome, writeFile, writeBuffer}
+use Rattle.bpg_format.specs.Write.{rangesInSource, unusedZero, absentZero, headerZero, consistent, checkLoop, checkEntries, fieldsCoded, checkHeader, checkContent, checkRecord, sizedFile, writeOutcome, writeFile, writeBuffer}
 use Rattle.bpg_format.specs.Pictures.{pictureOf, withChoices, canonicalContent, canonicalBytes, canonicalOutcome, canonicalFile, canonicalBuffer}
 use Rattle.bpg_format.specs.Requirements.{count, bytes}
 use Rattle.bpg_format.specs.Examples.{fileA, fileB, fileC, fileD, readingA, Holds, examples}
@@ -38,7 +38,7 @@ pub record Answers : Type 0 where
   pub c-count : count fileC (replicate 22 0) ≡ 22
 
 computed : All Holds examples × Answers
-unfolding select guarded thenRest rest bits unpack pack padded groups ue7Bytes ue7Rest ue7Decode leadingZeros prefixDecode expGolombBits extensionPart headerBits headerBytes bodyBytes dataLength fileOf readFlags loopIn loopOf loopNumbers period noForbiddenBit pcmAllowed hevcAllowed readLoop readEntry readEntries readBlock readSizes readPcm readSps readFields readHeader readAlphaHeader readContent headEnd blockStart dataStart recordOf readFile pictureOf withChoices canonicalContent canonicalBytes canonicalOutcome canonicalBuffer rangesInSource unusedZero absentZero headerZero consistent checkLoop checkEntries fieldsCoded checkHeader checkContent sizedFile writeOutcome writeFile writeBuffer contentOf entryOf canonicalFile
+unfolding select guarded thenRest rest bits unpack pack padded groups ue7Bytes ue7Rest ue7Decode leadingZeros prefixDecode expGolombBits extensionPart headerBits headerBytes bodyBytes dataLength fileOf readFlags loopIn loopOf loopNumbers period noForbiddenBit pcmAllowed hevcAllowed readLoop readEntry readEntries readBlock readSizes readPcm readSps readFields readHeader readAlphaHeader readContent headEnd blockStart dataStart recordOf readFile pictureOf withChoices canonicalContent canonicalBytes canonicalOutcome canonicalBuffer rangesInSource unusedZero absentZero headerZero consistent checkLoop checkEntries fieldsCoded checkHeader checkContent sizedFile checkRecord writeOutcome writeFile writeBuffer contentOf entryOf canonicalFile
 computed = (
   (refl, (refl, (refl, (refl, (refl, (refl, (refl, (refl, (refl, (refl, (refl, (refl, (refl, (refl, (refl, (refl, tt)))))))))))))))),
   record {

@@ -10,7 +10,7 @@ use lib.Seq.{drop-at}
 use mir.Facts.{eqb-no, no-eqb}
 use borrow.Author.Tests.{le-leb}
 use Rattle.bpg_codec.specs.Select.{select}
-use Rattle.bpg_codec.specs.Outcome.{Outcome, ok}
+use Rattle.bpg_codec.specs.Outcome.{Outcome, ok, _>>=_}
 use Rattle.bpg_codec.specs.Lawful.{All, Byte}
 use Rattle.bpg_codec.proofs.Select.{select-true, is-true, and-both, and-left, and-right}
 use Rattle.bpg_codec.proofs.Outcome.{ok-injective, unbind, unguard}
@@ -25,7 +25,7 @@ use Rattle.bpg_format.specs.Syntax.{blockBytes, fileOf}
 use Rattle.bpg_format.specs.Rules.{HeaderRules, hasLoop, noLoop, Rules}
 use Rattle.bpg_format.specs.FileCodec.{colorSpaceAllowed}
 use Rattle.bpg_format.specs.Records.{entriesAt, blockStart, recordOf, extensionOf, usedEntries, contentOf}
-use Rattle.bpg_format.specs.Write.{inSource, entriesInSource, rangesInSource, isZero, zeroEntries, unusedZero, absentZero, sameLoop, consistent, checkEntries, checkHeader, checkContent, sizedFile, writeOutcome, Typed, Writable}
+use Rattle.bpg_format.specs.Write.{inSource, entriesInSource, rangesInSource, isZero, zeroEntries, unusedZero, absentZero, sameLoop, consistent, checkEntries, checkHeader, checkContent, checkRecord, sizedFile, writeOutcome, Typed, Writable}
 use Rattle.bpg_format.proofs.HeaderRuleLaws.{unless-full, passed, by-flag}
 use Rattle.bpg_format.proofs.RuleLaws.{bool-apart, by-tag, flags-sound, flags-full, entry-size}
 use Rattle.bpg_format.proofs.RecordLaws.{used-entries, entries-length, content-record}
@@ -145,21 +145,26 @@ module _ (r : Record) (source : List ℕ) (typed : Typed r) (bytes : All Byte so
 
   -- what is written is the file of a writable record
   pub written-sound : (capacity : ℕ) (l : List ℕ) → writeOutcome capacity r source ≡ ok l → Writable capacity r source × (l ≡ fileOf (contentOf r source))
-  unfolding writeOutcome sizedFile rangesInSource unusedZero
+  unfolding writeOutcome checkRecord sizedFile rangesInSource unusedZero
   written-sound capacity l e =
       let c = contentOf r source in
-      unguard (leb (r .«entry_count») 16) 11 0 _ e λ t1 e1.
-      unguard (rangesInSource source r) 18 0 _ e1 λ t2 e2.
-      unguard (unusedZero r && consistent c) 19 0 _ e2 λ t3 e3.
-      unbind (checkContent c) _ e3 λ u e4 e5.
+      unbind (checkRecord r source) _ e λ u e1 e5.
+      unguard (leb (r .«entry_count») 16) 11 0 _ e1 λ t1 e2.
+      unguard (rangesInSource source r) 18 0 _ e2 λ t2 e3.
+      unguard (unusedZero r && consistent c) 19 0 _ e3 λ t3 e4.
       unguard (leb (length (fileOf c)) maxFile) 1 0 _ e5 λ t6 e6.
       unguard (leb (length (fileOf c)) capacity) 20 0 _ e6 λ t7 e7.
       let few = leb→le (r .«entry_count») 16 t1 in
       let rules = content-checked c (typed-content few) (and-right (unusedZero r) _ t3) e4 (leb→le _ _ t6) in
       (search (passed, in-source-sound, zero-sound), sym (ok-injective e7))
 
+pub write-checks : (capacity : ℕ) (r : Record) (source : List ℕ)
+    → writeOutcome capacity r source ≡ (checkRecord r source >>= λ _. sizedFile capacity (contentOf r source))
+unfolding writeOutcome
+write-checks capacity r source = refl
+
 pub written-full : (capacity : ℕ) (r : Record) (source : List ℕ) → Writable capacity r source → writeOutcome capacity r source ≡ ok (fileOf (contentOf r source))
-unfolding writeOutcome sizedFile rangesInSource unusedZero
+unfolding writeOutcome checkRecord sizedFile rangesInSource unusedZero
 written-full capacity r source w =
     rw (
       le-leb _ _ (w .few),

@@ -18,7 +18,7 @@ use Rattle.bpg_format.specs.Syntax.{fileOf}
 use Rattle.bpg_format.specs.Rules.{isLoop, hasLoop}
 use Rattle.bpg_format.specs.FileCodec.{colorSpaceAllowed, loopNumbers, loopFrom, noForbiddenBit, hevcAllowed}
 use Rattle.bpg_format.specs.Records.{contentOf}
-use Rattle.bpg_format.specs.Write.{rangesInSource, unusedZero, consistent, sameLoop, atZero, checkLoop, checkEntries, fieldsCoded, checkHeader, checkContent, sizedFile, writeOutcome, WritingStatus}
+use Rattle.bpg_format.specs.Write.{rangesInSource, unusedZero, consistent, sameLoop, atZero, checkLoop, checkEntries, fieldsCoded, checkHeader, checkContent, checkRecord, sizedFile, writeOutcome, WritingStatus}
 use Rattle.bpg_format.proofs.ReadingRefusals.{loop-refuses}
 
 abbrev pub AtZero : (status offset : ℕ) → Type 0
@@ -73,13 +73,17 @@ content-check c =
     (refuses-select AtZero (hasAlpha (c .flags)) _ _ (header-check (bitDepth (c .flags)) (c .alphaHeader)) (refuses-ok AtZero tt)) λ _.
     header-check (bitDepth (c .flags)) (c .colorHeader)))))))
 
+pub record-check : (r : Record) (source : List ℕ) → R (checkRecord r source)
+unfolding checkRecord
+record-check r source =
+    let c = contentOf r source in
+    rule (leb (r .«entry_count») maxEntries) 11 _ (omega arith)
+    (rule (rangesInSource source r) 18 _ (omega arith) (rule (unusedZero r && consistent c) 19 _ (omega arith) (content-check c)))
+
 pub write-refuses : (capacity : ℕ) (r : Record) (source : List ℕ) → R (writeOutcome capacity r source)
 unfolding writeOutcome sizedFile
 write-refuses capacity r source =
     let c = contentOf r source in
-    rule (leb (r .«entry_count») maxEntries) 11 _ (omega arith)
-    (rule (rangesInSource source r) 18 _ (omega arith)
-    (rule (unusedZero r && consistent c) 19 _ (omega arith)
-    (refuses-bind AtZero (checkContent c) _ (content-check c) λ _.
+    refuses-bind AtZero (checkRecord r source) _ (record-check r source) λ _.
     rule (leb (length (fileOf c)) maxFile) 1 _ (omega arith)
-    (rule (leb (length (fileOf c)) capacity) 20 _ (omega arith) (refuses-ok AtZero (fileOf c))))))
+    (rule (leb (length (fileOf c)) capacity) 20 _ (omega arith) (refuses-ok AtZero (fileOf c)))

@@ -146,13 +146,16 @@ sizedFile capacity c =
     guard (leb (length (fileOf c)) capacity) 20 0 >>= λ _.
     ok (fileOf c)
 
-unfoldable pub writeOutcome : (capacity : ℕ) → Record → (source : List ℕ) → Outcome (List ℕ)
-writeOutcome capacity r source =
+-- the refusals but for those of size
+unfoldable pub checkRecord : Record → (source : List ℕ) → Outcome (Unit {0})
+checkRecord r source =
     guard (leb (r .«entry_count») maxEntries) 11 0 >>= λ _.
     guard (rangesInSource source r) 18 0 >>= λ _.
     guard (unusedZero r && consistent (contentOf r source)) 19 0 >>= λ _.
-    checkContent (contentOf r source) >>= λ _.
-    sizedFile capacity (contentOf r source)
+    checkContent (contentOf r source)
+
+unfoldable pub writeOutcome : (capacity : ℕ) → Record → (source : List ℕ) → Outcome (List ℕ)
+writeOutcome capacity r source = checkRecord r source >>= λ _. sizedFile capacity (contentOf r source)
 
 -- a success writes its bytes from the start of the buffer; a refusal leaves it as it was
 abbrev pub writtenAnswer : Outcome (List ℕ) → Written

@@ -15,9 +15,10 @@ use Rattle.bpg_format.specs.declared.answer.Written.{Written}
 use Rattle.bpg_format.specs.Zero.{refusedWritten}
 use Rattle.bpg_format.specs.Syntax.{fileOf}
 use Rattle.bpg_format.specs.Records.{contentOf}
-use Rattle.bpg_format.specs.Write.{sizedFile, writeOutcome, writtenAnswer, writtenBuffer, writeFile, writeBuffer}
-use Rattle.bpg_check.specs.Check.{checkRecord, checkStatus}
-use Rattle.bpg_check.proofs.Judgement.{write-checks, check-refuses}
+use Rattle.bpg_format.specs.Write.{sizedFile, writeOutcome, writtenAnswer, writtenBuffer, writeFile, writeBuffer, checkRecord}
+use Rattle.bpg_format.proofs.Writing.{write-checks}
+use Rattle.bpg_check.specs.Check.{checkStatus}
+use Rattle.bpg_check.proofs.Judgement.{check-refuses}
 
 module _ (r : Record) (source out : List ℕ) where
   abbrev file : List ℕ

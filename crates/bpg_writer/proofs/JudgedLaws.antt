@@ -19,11 +19,10 @@ use Rattle.bpg_format.specs.Content.{isEmpty}
 use Rattle.bpg_format.specs.FileCodec.{colorSpaceAllowed, noForbiddenBit, hevcAllowed}
 use Rattle.bpg_format.specs.Rules.{HevcRules, hasLoop}
 use Rattle.bpg_format.specs.Records.{usedEntries, extensionOf, contentOf}
-use Rattle.bpg_format.specs.Write.{entriesInSource, inSource, rangesInSource, unusedZero, consistent, fieldsCoded, checkHeader, checkEntries, checkContent}
+use Rattle.bpg_format.specs.Write.{entriesInSource, inSource, rangesInSource, unusedZero, consistent, fieldsCoded, checkHeader, checkEntries, checkContent, checkRecord}
 use Rattle.bpg_format.proofs.HeaderRuleLaws.{hevc-sound}
 use Rattle.bpg_format.proofs.WriteLaws.{or-test}
 use Rattle.bpg_format.proofs.Writing.{empty-is, in-source-sound}
-use Rattle.bpg_check.specs.Check.{checkRecord}
 use Rattle.bpg_writer.specs.Parts.{RangeInside}
 
 pub record Judged (r : Record) (source : List ℕ) : Type 0 where

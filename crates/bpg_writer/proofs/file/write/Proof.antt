@@ -12,8 +12,8 @@ use Rattle.bpg_format.specs.declared.record.Record.{Record}
 use Rattle.bpg_format.specs.Zero.{zeroHeader}
 use Rattle.bpg_format.specs.Syntax.{fileOf}
 use Rattle.bpg_format.specs.Records.{usedEntries, contentOf}
+use Rattle.bpg_format.specs.Write.{checkRecord}
 use Rattle.bpg_format.proofs.record.Header as header-type
-use Rattle.bpg_check.specs.Check.{checkRecord}
 use Rattle.bpg_check.proofs.ConsistentLaws.{header-at}
 use Rattle.bpg_check.proofs.Judgement.{check-passes}
 use Rattle.bpg_writer.specs.declared.layout.Layout.{Layout}
