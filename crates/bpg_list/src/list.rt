@@ -110,9 +110,10 @@ fn put_entries(out: &mut [u64], record: Record)
     ensures { λ _. ⌜ now (out .exit) ≡ written (now (out .entry)) 12 (entriesNumbers («record» .entries)) ⌝ }
     ensures { λ _. ⌜ count (entriesNumbers («record» .entries)) ≡ 48 ⌝ }
 {
+    let entries = record.entries;
     let mut k: usize = 0;
     while k < MAX_ENTRIES {
-        let entry = record.entries[k];
+        let entry = entries[k];
         let part = [
             entry.tag as u64,
             entry.payload.start as u64,

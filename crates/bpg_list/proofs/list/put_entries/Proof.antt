@@ -15,15 +15,15 @@ use Rattle.bpg_list.proofs.list.put_entries.Statement.{statement}
 use Rattle.bpg_list.proofs.list.put_entries.Tie as tie
 
 abbrev Inv-loop : tie.InvT-loop
-Inv-loop out₀ «record» k₀ out k = (k ≤ 16) × (out ≡ written out₀ 12 (entriesNumbers (take k («record» .entries))))
+Inv-loop out₀ entries k₀ out k = (k ≤ 16) × (out ≡ written out₀ 12 (entriesNumbers (take k entries)))
 
 abbrev μ-loop : tie.MeasureT-loop
-μ-loop out₀ «record» k₀ out k = 16 - k
+μ-loop out₀ entries k₀ out k = 16 - k
 
 -- where the loop began
 module _ (s : tie.Start Inv-loop μ-loop) where
   abbrev es : List Entry
-  es = s .args .t2 .entries
+  es = s .args .«record» .entries
 
   sixteen : length es ≡ 16
   sixteen = sym (length-map es (entry-type.the-field .into)) ∙ s .good .1 .0 .1 .1 .1 .1 .1 .1 .1 .1 .1 .1 .1 .1 .1 .1 .0 .1 .0 .1
@@ -36,13 +36,13 @@ unfolding entriesNumbers
 none l es h = stored-none l 12 (omega arith) .0
 
 loop-holds : tie.Need-loop-holds Inv-loop μ-loop
-loop-holds c = let s = c .before in (omega arith, none (out s) (es s) (s .pre))
+loop-holds c = let s = c .before .before in (omega arith, none (out s) (es s) (s .pre))
 
 mul-entry : tie.Need-mul-entry Inv-loop μ-loop
 mul-entry c = omega arith
 
-element-copy-out-entry : tie.Need-element-copy-out-entry Inv-loop μ-loop
-element-copy-out-entry c = omega (arith, sixteen (c .before .before .before))
+array-copy-out-entry : tie.Need-array-copy-out-entry Inv-loop μ-loop
+array-copy-out-entry c = omega (arith, sixteen (c .before .before .before .before))
 
 cast-t12 : tie.Need-cast-t12 Inv-loop μ-loop
 cast-t12 c = search needs
@@ -75,19 +75,19 @@ loop-again : tie.Need-loop-again Inv-loop μ-loop
 loop-again c =
     let w = c .before .before in
     let t = w .before .before .before .before .before .before .before in
-    let s = t .before .before .before in
+    let s = t .before .before .before .before in
     (omega (arith, t .loop-test .taken), entry-written (out s) (es s) (sixteen s) (s .pre) (t .before .loop .k) _ (t .before .loop .out) _ (t .loop-test .taken) (t .before .loop .inv .1) (w .put .ensures))
 
 same-length : tie.Need-same-length Inv-loop μ-loop
 same-length c =
-    let s = c .before .before .before in
+    let s = c .before .before .before .before in
     let k = c .before .loop .k in
     ap length (c .before .loop .inv .1)
     ∙ written-length (out s) 12 (entriesNumbers (take k (es s))) (omega (arith, s .pre, c .before .loop .inv .0, first-length (out s) (es s) (sixteen s) (s .pre) k (c .before .loop .inv .0)))
 
 returns : tie.Need-returns Inv-loop μ-loop
 returns c =
-    let s = c .before .before .before in
+    let s = c .before .before .before .before in
     entries-written (out s) (es s) (sixteen s) (s .pre) (c .before .loop .k) _ (omega (arith, c .loop-test .left, c .before .loop .inv .0)) (c .before .loop .inv .1)
 
 pub put-entries-spec : {M : Type 1} → statement M
@@ -98,7 +98,7 @@ put-entries-spec =
     μ-loop
     loop-holds
     mul-entry
-    element-copy-out-entry
+    array-copy-out-entry
     cast-t12
     cast-t13
     cast-t14
