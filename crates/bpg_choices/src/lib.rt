@@ -8,6 +8,7 @@ use bpg_numbers::ue7;
 use bpg_rules::absent;
 ghost use mathlib.Core.Path.{_≡_};
 ghost use Prim.Native.Nat.{min};
+ghost use Rattle.bpg_format.specs.Limits.{maxEntries};
 ghost use Rattle.bpg_choices.specs.Records.{loopSize, canonicalEntry, hasRange, canonicalHeader, canonicalEntries, canonicalFlags, canonicalRecord};
 
 // How many bytes the three numbers of tag 5 take.
@@ -59,7 +60,7 @@ fn canonical_header(header: Header) -> Header
 
 // How many entries there are to visit: the record's count, and no more than the array has.
 fn used_entries(count: u32) -> usize
-    ensures { λ r. ⌜ r ≡ min 16 count ⌝ }
+    ensures { λ r. ⌜ r ≡ min maxEntries count ⌝ }
 {
     if MAX_ENTRIES < count as usize {
         return MAX_ENTRIES;
@@ -67,7 +68,7 @@ fn used_entries(count: u32) -> usize
     count as usize
 }
 
-// Only the entries in use are visited: a loop over all sixteen would be unrolled, and each number of each entry moved by itself.
+// Only the entries in use are visited: a loop over the whole array would be unrolled, and each number of each entry moved by itself.
 fn with_entries(record: Record, size: u32) -> Record
     ensures { λ r. ⌜ r ≡ canonicalEntries size «record» ⌝ }
 {

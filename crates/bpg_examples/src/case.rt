@@ -3,6 +3,7 @@
 // the source.
 use bpg_format::Entry;
 use bpg_format::Header;
+use bpg_format::MAX_ENTRIES;
 use bpg_format::Range;
 use bpg_format::Record;
 use bpg_format::zero_entry;
@@ -55,11 +56,11 @@ fn entry(s: &[u8], at: usize) -> Entry
     Entry { tag, payload }
 }
 
-fn entries(s: &[u8], at: usize) -> [Entry; 16]
+fn entries(s: &[u8], at: usize) -> [Entry; MAX_ENTRIES]
     requires { ⌜ at ≤ 100 ⌝ }
 {
     let none = zero_entry();
-    let mut all = [none; 16];
+    let mut all = [none; MAX_ENTRIES];
     for k in 0..16 {
         all[k] = entry(s, at + 12 * k);
     }

@@ -2,6 +2,7 @@
 use crate::text;
 use bpg_format::Entry;
 use bpg_format::Header;
+use bpg_format::MAX_ENTRIES;
 use bpg_format::Range;
 use bpg_format::Reading;
 use bpg_format::Record;
@@ -40,7 +41,7 @@ fn show_entry(index: usize, entry: Entry) {
 
 fn show_entries(record: Record) {
     text::show(b" entries [");
-    for i in 0..16 {
+    for i in 0..MAX_ENTRIES {
         if i < record.entry_count as usize {
             show_entry(i, record.entries[i]);
         }

@@ -2,9 +2,9 @@
 use mathlib.Core.Path.{_≡_, refl, sym, ap, subst}
 use mathlib.Core.Bool.{Bool, true, false}
 use mathlib.Core.List.{List, [], _∷_, map}
-use Prim.Native.Nat.{ℕ, _+_, _≤_}
+use Prim.Native.Nat.{ℕ, zero, suc, _+_, _≤_}
 use native.Mathlib.Omega.{arith}
-use lib.ListN.{length, take, drop, length-append, length-replicate, take-append-drop}
+use lib.ListN.{length, replicate, take, drop, length-append, length-replicate, take-append-drop}
 use Rattle.bpg_codec.specs.Lawful.{All, Byte}
 use Rattle.bpg_codec.specs.Outcome.{Outcome, ok, error}
 use Rattle.bpg_format.specs.Limits.{maxEntries, maxFile}
@@ -99,8 +99,22 @@ module _ (c : Content) (r : Rules c) where
       let range = writable .data-range in
       search (entries-typed, sixteen, loop-small, alpha-typed, arith)
 
+zeros-typed : (n : ℕ) → All (λ (e : Entry). OfBits 32 (entryNumbers e)) (replicate n zeroEntry)
+zeros-typed zero = tt
+zeros-typed (suc n) = (omega arith, zeros-typed n)
+
 refused-typed : TypedRecord zeroRecord
-refused-typed = search (zero-typed, arith) depth 20
+refused-typed =
+    record {
+      flags = omega arith;
+      size = omega arith;
+      entries = zeros-typed maxEntries;
+      sixteen = refl;
+      loop = omega arith;
+      headers = (zero-typed, (zero-typed, tt));
+      two = refl;
+      data-range = omega arith;
+    }
 
 pub read-typed : (f : List ℕ) → All Byte f → TypedRecord (readFile f .«record»)
 unfolding readFile

@@ -16,7 +16,7 @@ use Rattle.bpg_codec.proofs.Packed.{length-padded}
 use Rattle.bpg_numbers.specs.Ue7.{ue7Bytes}
 use Rattle.bpg_numbers.proofs.Ue7Laws.{size-grows, bytes-ue7}
 use Rattle.bpg_format.specs.declared.record.Header.{Header}
-use Rattle.bpg_format.specs.Limits.{maxFile}
+use Rattle.bpg_format.specs.Limits.{maxEntries, maxFile}
 use Rattle.bpg_format.specs.Zero.{zeroHeader}
 use Rattle.bpg_format.specs.Content.{isEmpty, Extension, Loop, Content, hasAlpha}
 use Rattle.bpg_format.specs.Syntax.{blockBytes, extensionPart, spsExtensionBits, headerBits, headerBytes, bodyBytes, dataLength, fileOf}
@@ -209,7 +209,7 @@ no-entries p (x ∷ es) e = bool-apart refl e
 pub canonical-rules : (c : Content) → Rules c → Rules (canonicalContent c)
 unfolding pictureOf withChoices canonicalContent
 canonical-rules c r =
-    let limit : length (canonicalEntries (c .loop) (c .extensions)) ≤ 16 = simp length-map (r .entry-limit) in
+    let limit : length (canonicalEntries (c .loop) (c .extensions)) ≤ maxEntries = simp length-map (r .entry-limit) in
     let loops = entries-loop (c .loop) (c .extensions) in
     let no-loop : hasLoop (canonicalEntries (c .loop) (c .extensions)) ≡ false → c .loop ≡ noLoop = λ h. r .no-loop (sym loops ∙ h) in
     let no-alpha : hasAlpha (c .flags) ≡ false → canonical (c .alphaHeader) ≡ zeroHeader = λ a. ap canonical (r .no-alpha a) in

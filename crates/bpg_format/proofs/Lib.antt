@@ -1,4 +1,5 @@
 -- The theory of the format.
+pub mod Typed
 pub mod FlagLaws
 pub mod FileLaws
 pub mod Chain

@@ -17,7 +17,7 @@ use Rattle.bpg_codec.specs.Parts.{sequence, mapped, guarded, sized, absent}
 use Rattle.bpg_codec.specs.Regions.{thenRest, itemThenRest, mappedExact, derived, guardedRegion, rest, verbatim, ValidEach, repeated}
 use Rattle.bpg_codec.proofs.Select.{select-true, select-false, is-true, is-false}
 use Rattle.bpg_numbers.specs.Ue7.{ue7Bytes}
-use Rattle.bpg_format.specs.Limits.{maxFile}
+use Rattle.bpg_format.specs.Limits.{maxEntries, maxFile}
 use Rattle.bpg_format.specs.declared.record.Header.{Header}
 use Rattle.bpg_format.specs.Content.{Flags, Extension, Loop, Content, hasAlpha, bitDepth}
 use Rattle.bpg_format.specs.Syntax.{blockBytes, extensionPart, headerBits, headerBytes, bodyBytes, dataLength, fileOf}
@@ -189,12 +189,12 @@ entries-full seen (e ∷ es) p r o f s =
 
 -- ---- the block
 
-block-sound : (present : Bool) (es : List Extension) → block present .Valid es → EachValid false es × (length es ≤ 16)
+block-sound : (present : Bool) (es : List Extension) → block present .Valid es → EachValid false es × (length es ≤ maxEntries)
 unfolding block select absent sized extensions repeated
 block-sound true es v = (v .0 .0, v .0 .1)
 block-sound false es v = rw v (tt, omega arith)
 
-block-full : (present : Bool) (es : List Extension) → (present ≡ false → es ≡ []) → EachValid false es → length es ≤ 16
+block-full : (present : Bool) (es : List Extension) → (present ≡ false → es ≡ []) → EachValid false es → length es ≤ maxEntries
     → length (blockBytes es) < 2 ^ 32 → block present .Valid es
 unfolding block sized extensions repeated
 block-full present es n v h s = opt-valid present _ [] es (λ _. ((v, h), rw (each-encode false es) s)) n

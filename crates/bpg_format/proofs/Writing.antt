@@ -16,7 +16,7 @@ use Rattle.bpg_codec.proofs.Select.{select-true, is-true, and-both, and-left, a
 use Rattle.bpg_codec.proofs.Outcome.{ok-injective, unbind, unguard}
 use Rattle.bpg_codec.proofs.Tokens.{all-take, all-drop, all-replicate}
 use Rattle.bpg_numbers.specs.Ue7.{ue7Bytes, notZero}
-use Rattle.bpg_format.specs.Limits.{maxFile}
+use Rattle.bpg_format.specs.Limits.{maxEntries, maxFile}
 use Rattle.bpg_format.specs.declared.record.Entry.{Entry}
 use Rattle.bpg_format.specs.declared.record.Record.{Record}
 use Rattle.bpg_format.specs.Zero.{zeroEntry, zeroHeader}
@@ -42,7 +42,7 @@ empty-is (e ∷ es) t = absurd t
 pub record TypedContent (c : Content) : Type 0 where
   pub width : c .width < 2 ^ 32
   pub height : c .height < 2 ^ 32
-  pub few : length (c .extensions) ≤ 16
+  pub few : length (c .extensions) ≤ maxEntries
   pub extensions : All TypedExtension (c .extensions)
   pub alpha-nine : length (c .alphaHeader .«range_flags») ≡ 9
   pub color-nine : length (c .colorHeader .«range_flags») ≡ 9
@@ -137,10 +137,10 @@ typed-extensions source h (e ∷ es) t =
     ((t .0, all-take Byte (e .payload .length) _ (all-drop Byte (e .payload .start) source h)), typed-extensions source h es (t .1))
 
 module _ (r : Record) (source : List ℕ) (typed : Typed r) (bytes : All Byte source) where
-  typed-content : r .«entry_count» ≤ 16 → TypedContent (contentOf r source)
+  typed-content : r .«entry_count» ≤ maxEntries → TypedContent (contentOf r source)
   unfolding contentOf
   typed-content h =
-      let few : length (map (extensionOf source) (usedEntries r)) ≤ 16 = rw (length-map (usedEntries r) (extensionOf source), length-take) (omega arith) in
+      let few : length (map (extensionOf source) (usedEntries r)) ≤ maxEntries = rw (length-map (usedEntries r) (extensionOf source), length-take) (omega arith) in
       search (typed-extensions, all-take, all-drop)
 
   -- what is written is the file of a writable record
@@ -149,12 +149,12 @@ module _ (r : Record) (source : List ℕ) (typed : Typed r) (bytes : All Byte so
   written-sound capacity l e =
       let c = contentOf r source in
       unbind (checkRecord r source) _ e λ u e1 e5.
-      unguard (leb (r .«entry_count») 16) 11 0 _ e1 λ t1 e2.
+      unguard (leb (r .«entry_count») maxEntries) 11 0 _ e1 λ t1 e2.
       unguard (rangesInSource source r) 18 0 _ e2 λ t2 e3.
       unguard (unusedZero r && consistent c) 19 0 _ e3 λ t3 e4.
       unguard (leb (length (fileOf c)) maxFile) 1 0 _ e5 λ t6 e6.
       unguard (leb (length (fileOf c)) capacity) 20 0 _ e6 λ t7 e7.
-      let few = leb→le (r .«entry_count») 16 t1 in
+      let few = leb→le (r .«entry_count») maxEntries t1 in
       let rules = content-checked c (typed-content few) (and-right (unusedZero r) _ t3) e4 (leb→le _ _ t6) in
       (search (passed, in-source-sound, zero-sound), sym (ok-injective e7))
 

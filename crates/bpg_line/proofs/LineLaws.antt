@@ -56,18 +56,7 @@ pub record Printable (r : Record) : Type 0 where
 
 -- which the fields of a record in the code are
 pub printable : (r : Record) → WT (val the-type the-laws r) → Printable r
-printable r k =
-    let sizes = k .1 .1 .1 .1 .1 .1 .1 .1 in
-    let entries = sizes .1 .1 .1 in
-    record {
-      width = sizes .0 .fits;
-      height = sizes .1 .0 .fits;
-      format = k .0 .fits;
-      depth = k .1 .1 .0 .fits;
-      space = k .1 .1 .1 .0 .fits;
-      count = entries .0 .fits;
-      size = entries .1 .1 .1 .1 .1 .1 .0 .1 .0 .fits;
-    }
+printable r k = omega arith
 
 pub length-accepted : (r : Record) → Printable r → length (acceptedLine r) ≤ lineSize
 unfolding ascii

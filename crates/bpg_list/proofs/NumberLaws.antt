@@ -9,13 +9,14 @@ use lib.Dec.{eqb}
 use lib.ListN.{length, take, drop, getD, length-append, length-map, drop-of-length-le}
 use lib.Seq.{length-take-le, take-all, drop-length, take-suc, drop-cons}
 use mir.Val.{boolByte}
+use Rattle.bpg_format.specs.Limits.{maxEntries}
 use Rattle.bpg_codec.specs.Bits.{bit}
 use Rattle.bpg_codec.specs.Buffer.{written}
 use Rattle.bpg_codec.proofs.Buffer.{length-splice, stored, written-written}
 use Rattle.bpg_format.specs.declared.record.Entry.{Entry}
 use Rattle.bpg_format.specs.declared.record.Header.{Header}
 use Rattle.bpg_format.specs.declared.record.Record.{Record}
-use Rattle.bpg_list.specs.Numbers.{headNumbers, rangeNumbers, entryNumbers, entriesNumbers, loopNumbers, headerNumbers, headersNumbers, numbersOf, entryAt, entriesAt, beginsWith}
+use Rattle.bpg_list.specs.Numbers.{loopStart, alphaStart, colorStart, dataStart, recordLength, headNumbers, rangeNumbers, entryNumbers, entriesNumbers, loopNumbers, headerNumbers, headersNumbers, numbersOf, entryAt, entriesAt, beginsWith}
 
 -- a flag as a number
 pub flag-number : (t : Bool) → boolByte t ≡ bit t
@@ -86,19 +87,19 @@ module _ (out : List ℕ) where
   written-next at n l m o p e h q r = r ∙ ap₂ (λ (x : List ℕ) (j : ℕ). written x j m) q (sym e) ∙ written-written out at l m (omega arith)
 
   -- one more entry
-  module _ (es : List Entry) (sixteen : length es ≡ 16) (long : 60 ≤ length out) where
-    pub first-length : (k : ℕ) → k ≤ 16 → length (entriesNumbers (take k es)) ≡ 3 * k
+  module _ (es : List Entry) (sixteen : length es ≡ maxEntries) (long : loopStart ≤ length out) where
+    pub first-length : (k : ℕ) → k ≤ maxEntries → length (entriesNumbers (take k es)) ≡ 3 * k
     first-length k h = entries-length (take k es) ∙ ap (λ (n : ℕ). 3 * n) (length-take-le k es (omega arith))
 
-    pub entry-written : (k : ℕ) (d : Entry) (o p : List ℕ) → k < 16 → o ≡ written out 12 (entriesNumbers (take k es)) → p ≡ written o (12 + 3 * k) (entryNumbers (getD es k d))
+    pub entry-written : (k : ℕ) (d : Entry) (o p : List ℕ) → k < maxEntries → o ≡ written out 12 (entriesNumbers (take k es)) → p ≡ written o (12 + 3 * k) (entryNumbers (getD es k d))
         → p ≡ written out 12 (entriesNumbers (take (k + 1) es))
     entry-written k d o p h q r =
         let e : 12 + length (entriesNumbers (take k es)) ≡ 12 + 3 * k = ap (λ (n : ℕ). 12 + n) (first-length k (omega arith)) in
         written-next 12 (12 + 3 * k) (entriesNumbers (take k es)) (entryNumbers (getD es k d)) o p e (omega arith) q r
         ∙ ap (written out 12) (sym (entries-next es k d (omega arith)))
 
-    pub entries-written : (k : ℕ) (o : List ℕ) → k ≡ 16 → o ≡ written out 12 (entriesNumbers (take k es))
-        → (o ≡ written out 12 (entriesNumbers es)) × (length (entriesNumbers es) ≡ 48)
+    pub entries-written : (k : ℕ) (o : List ℕ) → k ≡ maxEntries → o ≡ written out 12 (entriesNumbers (take k es))
+        → (o ≡ written out 12 (entriesNumbers es)) × (length (entriesNumbers es) ≡ 3 * maxEntries)
     entries-written k o e q =
         (q ∙ ap (λ (l : List Entry). written out 12 (entriesNumbers l)) (take-all k es (omega arith)), omega (arith, entries-length es))
 
@@ -112,7 +113,7 @@ in-order : (h e l a b d : List ℕ) → ((((h ++ e) ++ l) ++ a) ++ b) ++ d ≡ h
 in-order h e l a b d = simp append-assoc
 
 -- the parts of a record
-module _ (out : List ℕ) (r : Record) (d : Header) (long : 115 ≤ length out) (two : length (r .headers) ≡ 2) (sixteen : length (entriesNumbers (r .entries)) ≡ 48) where
+module _ (out : List ℕ) (r : Record) (d : Header) (long : recordLength ≤ length out) (two : length (r .headers) ≡ 2) (sixteen : length (entriesNumbers (r .entries)) ≡ 3 * maxEntries) where
   abbrev alpha : List ℕ
   alpha = headerNumbers (getD (r .headers) 0 d)
 
@@ -126,21 +127,21 @@ module _ (out : List ℕ) (r : Record) (d : Header) (long : 115 ≤ length out) 
       ∙ ap (λ (l : List ℕ). headNumbers r ++ (entriesNumbers (r .entries) ++ (loopNumbers r ++ (l ++ rangeNumbers (r .«data»))))) (sym (two-headers (r .headers) d two))
 
   pub record-written : (o1 o2 o3 o4 o5 o6 : List ℕ) → length alpha ≡ 25 → length color ≡ 25
-      → o1 ≡ written out 0 (headNumbers r) → o2 ≡ written o1 12 (entriesNumbers (r .entries)) → o3 ≡ written o2 60 (loopNumbers r)
-      → o4 ≡ written o3 63 alpha → o5 ≡ written o4 88 color → o6 ≡ written o5 113 (rangeNumbers (r .«data»))
-      → (o6 ≡ written out 0 (numbersOf r)) × (length (numbersOf r) ≡ 115)
+      → o1 ≡ written out 0 (headNumbers r) → o2 ≡ written o1 12 (entriesNumbers (r .entries)) → o3 ≡ written o2 loopStart (loopNumbers r)
+      → o4 ≡ written o3 alphaStart alpha → o5 ≡ written o4 colorStart color → o6 ≡ written o5 dataStart (rangeNumbers (r .«data»))
+      → (o6 ≡ written out 0 (numbersOf r)) × (length (numbersOf r) ≡ recordLength)
   record-written o1 o2 o3 o4 o5 o6 m n p1 p2 p3 p4 p5 p6 =
       let a = headNumbers r in
       let b = a ++ entriesNumbers (r .entries) in
       let c = b ++ loopNumbers r in
       let e = c ++ alpha in
       let f = e ++ color in
-      let ends : (length b ≡ 60) × (length c ≡ 63) × (length e ≡ 88) × (length f ≡ 113) = simp length-append (omega arith) in
+      let ends : (length b ≡ loopStart) × (length c ≡ alphaStart) × (length e ≡ colorStart) × (length f ≡ dataStart) = simp length-append (omega arith) in
       let q2 = written-next out 0 12 a (entriesNumbers (r .entries)) o1 o2 refl (omega arith) p1 p2 in
-      let q3 = written-next out 0 60 b (loopNumbers r) o2 o3 (omega arith) (omega arith) q2 p3 in
-      let q4 = written-next out 0 63 c alpha o3 o4 (omega arith) (omega arith) q3 p4 in
-      let q5 = written-next out 0 88 e color o4 o5 (omega arith) (omega arith) q4 p5 in
-      let q6 = written-next out 0 113 f (rangeNumbers (r .«data»)) o5 o6 (omega arith) (omega arith) q5 p6 in
+      let q3 = written-next out 0 loopStart b (loopNumbers r) o2 o3 (omega arith) (omega arith) q2 p3 in
+      let q4 = written-next out 0 alphaStart c alpha o3 o4 (omega arith) (omega arith) q3 p4 in
+      let q5 = written-next out 0 colorStart e color o4 o5 (omega arith) (omega arith) q4 p5 in
+      let q6 = written-next out 0 dataStart f (rangeNumbers (r .«data»)) o5 o6 (omega arith) (omega arith) q5 p6 in
       (q6 ∙ ap (written out 0) parts-are, ap length (sym parts-are) ∙ length-append f (rangeNumbers (r .«data»)) ∙ omega arith)
 
 -- ---- lists compared

@@ -9,13 +9,14 @@ use lib.Dec.{eqb}
 use lib.ListN.{length, drop, getD, length-append}
 use lib.Seq.{getD-drop, drop-append-seam, drop-drop}
 use borrow.Author.Tests.{eq-eqb}
+use Rattle.bpg_format.specs.Limits.{maxEntries}
 use Rattle.bpg_codec.specs.Bits.{bit}
 use Rattle.bpg_codec.specs.Lawful.{All}
 use Rattle.bpg_format.specs.declared.record.Entry.{Entry}
 use Rattle.bpg_format.specs.declared.record.Header.{Header}
 use Rattle.bpg_format.specs.declared.record.Record.{Record}
 use Rattle.bpg_format.specs.Zero.{range}
-use Rattle.bpg_list.specs.Numbers.{headNumbers, rangeNumbers, entryNumbers, entriesNumbers, loopNumbers, headerNumbers, headersNumbers, numbersOf, entriesAt, rangeFlagsAt, headerAt, recordOf, beginsWith, numbersFit}
+use Rattle.bpg_list.specs.Numbers.{loopStart, alphaStart, colorStart, dataStart, recordLength, headNumbers, rangeNumbers, entryNumbers, entriesNumbers, loopNumbers, headerNumbers, headersNumbers, numbersOf, entriesAt, rangeFlagsAt, headerAt, recordOf, beginsWith, numbersFit}
 use Rattle.bpg_list.specs.Typing.{OfBits, TypedHeader, TypedRecord}
 use Rattle.bpg_list.proofs.NumberLaws.{by-length, entries-length, header-length}
 
@@ -72,15 +73,15 @@ headers-length (h ∷ hs) t = omega (arith, length-append (headerNumbers h) (hea
 past : (a b l : List ℕ) (n : ℕ) → l ≡ a ++ b → length a ≡ n → drop n l ≡ b
 past a b l n e k = ap₂ (λ (m : ℕ) (x : List ℕ). drop m x) (sym k) e ∙ drop-append-seam a b
 
-headers-back : (hs : List Header) (l rest : List ℕ) → length hs ≡ 2 → All TypedHeader hs → drop 63 l ≡ headersNumbers hs ++ rest
-    → (headerAt l 63 ∷ headerAt l 88 ∷ []) ≡ hs
+headers-back : (hs : List Header) (l rest : List ℕ) → length hs ≡ 2 → All TypedHeader hs → drop alphaStart l ≡ headersNumbers hs ++ rest
+    → (headerAt l alphaStart ∷ headerAt l colorStart ∷ []) ≡ hs
 unfolding headersNumbers
 headers-back hs l rest =
-    by-length 2 (λ m. All TypedHeader m → drop 63 l ≡ headersNumbers m ++ rest → (headerAt l 63 ∷ headerAt l 88 ∷ []) ≡ m)
+    by-length 2 (λ m. All TypedHeader m → drop alphaStart l ≡ headersNumbers m ++ rest → (headerAt l alphaStart ∷ headerAt l colorStart ∷ []) ≡ m)
     (λ a b t e.
     let f = e ∙ append-assoc (headerNumbers a) (headerNumbers b ++ []) rest in
-    let g : drop 25 (drop 63 l) ≡ headerNumbers b ++ rest = past (headerNumbers a) ((headerNumbers b ++ []) ++ rest) (drop 63 l) 25 f (header-length a (t .0 .nine)) ∙ append-assoc (headerNumbers b) [] rest in
-    ap₂ (λ (x y : Header). x ∷ y ∷ []) (header-there l 63 a _ (t .0) f) (header-there l 88 b _ (t .1 .0) (sym (drop-drop 25 63 l) ∙ g))) hs
+    let g : drop 25 (drop alphaStart l) ≡ headerNumbers b ++ rest = past (headerNumbers a) ((headerNumbers b ++ []) ++ rest) (drop alphaStart l) 25 f (header-length a (t .0 .nine)) ∙ append-assoc (headerNumbers b) [] rest in
+    ap₂ (λ (x y : Header). x ∷ y ∷ []) (header-there l alphaStart a _ (t .0) f) (header-there l colorStart b _ (t .1 .0) (sym (drop-drop 25 alphaStart l) ∙ g))) hs
 
 begins-itself : (l rest : List ℕ) → beginsWith l (l ++ rest) ≡ true
 unfolding beginsWith
@@ -93,43 +94,43 @@ module _ (r : Record) (rest : List ℕ) (t : TypedRecord r) where
   abbrev all : List ℕ
   all = numbersOf r ++ rest
 
-  entries-end : length (headNumbers r ++ entriesNumbers (r .entries)) ≡ 60
+  entries-end : length (headNumbers r ++ entriesNumbers (r .entries)) ≡ loopStart
   entries-end = omega (arith, length-append (headNumbers r) (entriesNumbers (r .entries)), entries-length (r .entries), t .sixteen)
 
-  past-entries : drop 60 all ≡ loopNumbers r ++ (headersNumbers (r .headers) ++ (rangeNumbers (r .«data») ++ rest))
+  past-entries : drop loopStart all ≡ loopNumbers r ++ (headersNumbers (r .headers) ++ (rangeNumbers (r .«data») ++ rest))
   unfolding numbersOf
   past-entries =
-      past (headNumbers r ++ entriesNumbers (r .entries)) (loopNumbers r ++ (headersNumbers (r .headers) ++ (rangeNumbers (r .«data») ++ rest))) all 60 (simp append-assoc) entries-end
+      past (headNumbers r ++ entriesNumbers (r .entries)) (loopNumbers r ++ (headersNumbers (r .headers) ++ (rangeNumbers (r .«data») ++ rest))) all loopStart (simp append-assoc) entries-end
 
-  past-loop : drop 63 all ≡ headersNumbers (r .headers) ++ (rangeNumbers (r .«data») ++ rest)
-  past-loop = sym (drop-drop 3 60 all) ∙ ap (drop 3) past-entries
+  past-loop : drop alphaStart all ≡ headersNumbers (r .headers) ++ (rangeNumbers (r .«data») ++ rest)
+  past-loop = sym (drop-drop 3 loopStart all) ∙ ap (drop 3) past-entries
 
-  past-headers : drop 113 all ≡ rangeNumbers (r .«data») ++ rest
+  past-headers : drop dataStart all ≡ rangeNumbers (r .«data») ++ rest
   past-headers =
-      sym (drop-drop 50 63 all)
-      ∙ past (headersNumbers (r .headers)) (rangeNumbers (r .«data») ++ rest) (drop 63 all) 50 past-loop (omega (arith, headers-length (r .headers) (t .headers), t .two))
+      sym (drop-drop 50 alphaStart all)
+      ∙ past (headersNumbers (r .headers)) (rangeNumbers (r .«data») ++ rest) (drop alphaStart all) 50 past-loop (omega (arith, headers-length (r .headers) (t .headers), t .two))
 
-  entries-are : entriesAt all 12 16 ≡ r .entries
+  entries-are : entriesAt all 12 maxEntries ≡ r .entries
   unfolding numbersOf
   entries-are =
       let tail = loopNumbers r ++ (headersNumbers (r .headers) ++ rangeNumbers (r .«data»)) in
-      entries-from all 12 0 16
-      ∙ ap (λ (l : List ℕ). entriesAt l 0 16) (append-assoc (entriesNumbers (r .entries)) tail rest)
+      entries-from all 12 0 maxEntries
+      ∙ ap (λ (l : List ℕ). entriesAt l 0 maxEntries) (append-assoc (entriesNumbers (r .entries)) tail rest)
       ∙ ap (entriesAt (entriesNumbers (r .entries) ++ (tail ++ rest)) 0) (sym (t .sixteen))
       ∙ entries-back (r .entries) (tail ++ rest) (t .entries)
 
   pub record-back : recordOf all ≡ r
   unfolding recordOf numbersOf
   record-back =
-      let loop = number-from all 60 (loopNumbers r ++ (headersNumbers (r .headers) ++ (rangeNumbers (r .«data») ++ rest))) in
+      let loop = number-from all loopStart (loopNumbers r ++ (headersNumbers (r .headers) ++ (rangeNumbers (r .«data») ++ rest))) in
       let headers = headers-back (r .headers) all (rangeNumbers (r .«data») ++ rest) (t .two) (t .headers) past-loop in
-      let range = number-from all 113 (rangeNumbers (r .«data») ++ rest) in
+      let range = number-from all dataStart (rangeNumbers (r .«data») ++ rest) in
       search (mod-eq-of-lt, flag, entries-are, loop 0 past-entries, loop 1 past-entries, loop 2 past-entries, headers, range 0 past-headers, range 1 past-headers)
 
   -- and so the list fits
   pub numbers-fit : numbersFit all ≡ true
   numbers-fit = ap (λ (x : Record). beginsWith (numbersOf x) all) record-back ∙ begins-itself (numbersOf r) rest
 
-  pub numbers-length : length (numbersOf r) ≡ 115
+  pub numbers-length : length (numbersOf r) ≡ recordLength
   unfolding numbersOf
   numbers-length = simp length-append (omega (arith, entries-length (r .entries), t .sixteen, headers-length (r .headers) (t .headers), t .two))

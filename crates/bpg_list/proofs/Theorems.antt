@@ -7,11 +7,12 @@ use Prim.Native.Nat.{ℕ, zero, suc, _+_, _%_, _^_, _<_}
 use native.Mathlib.Omega.{arith}
 use lib.Dec.{eqb, eqb→eq, T}
 use lib.ListN.{length}
+use Rattle.bpg_format.specs.Limits.{maxEntries}
 use Rattle.bpg_codec.specs.Bits.{bit}
 use Rattle.bpg_codec.specs.Lawful.{All}
 use Rattle.bpg_format.specs.declared.record.Entry.{Entry}
 use Rattle.bpg_format.specs.declared.record.Record.{Record}
-use Rattle.bpg_list.specs.Numbers.{entryNumbers, numbersOf, entriesAt, rangeFlagsAt, headerAt, recordOf, beginsWith, numbersFit}
+use Rattle.bpg_list.specs.Numbers.{alphaStart, colorStart, entryNumbers, numbersOf, entriesAt, rangeFlagsAt, headerAt, recordOf, beginsWith, numbersFit}
 use Rattle.bpg_list.specs.Typing.{OfBits, TypedHeader, TypedRecord}
 use Rattle.bpg_list.specs.Theorems.{ListOf, ListTheorems}
 use Rattle.bpg_list.proofs.RecordLists.{record-back, numbers-fit}
@@ -43,7 +44,7 @@ header-typed l k =
       nine = refl;
     }
 
-entries-sixteen : (l : List ℕ) → length (entriesAt l 12 16) ≡ 16
+entries-sixteen : (l : List ℕ) → length (entriesAt l 12 maxEntries) ≡ maxEntries
 unfolding entriesAt
 entries-sixteen l = refl
 
@@ -53,10 +54,10 @@ any-typed l =
     record {
       flags = (byte _, (byte _, (byte _, tt)));
       size = (word _, (word _, (word _, tt)));
-      entries = entries-typed l 12 16;
+      entries = entries-typed l 12 maxEntries;
       sixteen = entries-sixteen l;
       loop = (short _, (short _, (short _, tt)));
-      headers = (header-typed l 63, (header-typed l 88, tt));
+      headers = (header-typed l alphaStart, (header-typed l colorStart, tt));
       two = refl;
       data-range = (word _, (word _, tt));
     }

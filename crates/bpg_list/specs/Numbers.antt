@@ -2,7 +2,7 @@
 -- a struct or an array within it in theirs, a flag as 1 or 0.
 use mathlib.Core.Bool.{Bool, true, false, _&&_}
 use mathlib.Core.List.{List, [], _∷_, _++_, map}
-use Prim.Native.Nat.{ℕ, zero, suc, _+_, _%_, _^_}
+use Prim.Native.Nat.{ℕ, zero, suc, _+_, _*_, _%_, _^_}
 use lib.Dec.{eqb}
 use lib.ListN.{getD}
 use Rattle.bpg_codec.specs.Bits.{bit}
@@ -14,12 +14,24 @@ use Rattle.bpg_format.specs.declared.record.Record.{Record}
 use Rattle.bpg_format.specs.declared.answer.Reading.{Reading}
 use Rattle.bpg_format.specs.Zero.{range}
 
--- how many numbers a record has, and a reading
+-- where the parts of a list begin: 12 numbers, three an entry, three, 25 a header, two; a record ends there, and a reading two further
+abbrev pub loopStart : ℕ
+loopStart = 12 + 3 * maxEntries
+
+abbrev pub alphaStart : ℕ
+alphaStart = loopStart + 3
+
+abbrev pub colorStart : ℕ
+colorStart = alphaStart + 25
+
+abbrev pub dataStart : ℕ
+dataStart = colorStart + 25
+
 abbrev pub recordLength : ℕ
-recordLength = 115
+recordLength = dataStart + 2
 
 abbrev pub readingLength : ℕ
-readingLength = 117
+readingLength = recordLength + 2
 
 -- ---- from a record to its list
 
@@ -37,12 +49,12 @@ rangeNumbers r = r .start ∷ r .length ∷ []
 abbrev pub entryNumbers : Entry → List ℕ
 entryNumbers e = e .tag ∷ rangeNumbers (e .payload)
 
--- 12 to 59, three an entry
+-- from 12, three an entry
 unfoldable pub entriesNumbers : List Entry → List ℕ
 entriesNumbers [] = []
 entriesNumbers (e ∷ es) = entryNumbers e ++ entriesNumbers es
 
--- 60 to 62
+-- from loopStart
 abbrev pub loopNumbers : Record → List ℕ
 loopNumbers r = r .«loop_count» ∷ r .«frame_period_num» ∷ r .«frame_period_den» ∷ []
 
@@ -58,16 +70,16 @@ headerNumbers h =
     ∷ bit (h .«sps_extension_present_flag») ∷ bit (h .«sps_range_extension_flag») ∷ h .«sps_extension_7bits» ∷ [])
     ++ map bit (h .«range_flags»)
 
--- 63 to 112, 25 a header: alpha, then colour
+-- from alphaStart, 25 a header: alpha, then colour
 unfoldable pub headersNumbers : List Header → List ℕ
 headersNumbers [] = []
 headersNumbers (h ∷ hs) = headerNumbers h ++ headersNumbers hs
 
--- the data's range is 113 and 114
+-- from dataStart, the data's range
 unfoldable pub numbersOf : Record → List ℕ
 numbersOf r = headNumbers r ++ (entriesNumbers (r .entries) ++ (loopNumbers r ++ (headersNumbers (r .headers) ++ rangeNumbers (r .«data»))))
 
--- the coded size is 115 and 116
+-- from recordLength, the coded size
 abbrev pub readingNumbers : Reading → List ℕ
 readingNumbers r = numbersOf (r .«record») ++ (r .«coded_width» ∷ r .«coded_height» ∷ [])
 
@@ -139,11 +151,11 @@ recordOf l =
       «explicit_length» = flagAt l 10;
       «entry_count» = u32At l 11;
       entries = entriesAt l 12 maxEntries;
-      «loop_count» = u16At l 60;
-      «frame_period_num» = u16At l 61;
-      «frame_period_den» = u16At l 62;
-      headers = headerAt l 63 ∷ headerAt l 88 ∷ [];
-      «data» = rangeAt l 113;
+      «loop_count» = u16At l loopStart;
+      «frame_period_num» = u16At l (loopStart + 1);
+      «frame_period_den» = u16At l (loopStart + 2);
+      headers = headerAt l alphaStart ∷ headerAt l colorStart ∷ [];
+      «data» = rangeAt l dataStart;
     }
 
 -- the list l begins with a

@@ -7,17 +7,26 @@ use bpg_format::Record;
 use bpg_format::Written;
 use bpg_format::written_refused;
 ghost use mathlib.Core.Path.{_≡_};
-ghost use Prim.Native.Nat.{_≤_};
+ghost use Prim.Native.Nat.{_*_, _≤_};
 ghost use lib.ListN.{length as count};
 ghost use Rattle.bpg_codec.specs.Buffer.{written};
+ghost use Rattle.bpg_format.specs.Limits.{maxEntries};
 ghost use Rattle.bpg_format.specs.Write.{writtenAnswer, writtenBuffer};
-ghost use Rattle.bpg_list.specs.Numbers.{recordLength, headNumbers, rangeNumbers, entriesNumbers, loopNumbers, headerNumbers, numbersOf, beginsWith};
+ghost use Rattle.bpg_list.specs.Numbers.{loopStart, dataStart, recordLength, headNumbers, rangeNumbers, entriesNumbers, loopNumbers, headerNumbers, numbersOf, beginsWith};
 ghost use Rattle.bpg_list.specs.Calls.{listed, listStatus};
 
-// How many numbers a record has, and a reading, which adds the coded width and height.
-pub(crate) const RECORD: usize = 115;
+// Where the parts of a list begin. A record ends at RECORD, and a reading, which adds the coded width and height, at READING.
+pub(crate) const LOOP: usize = 12 + 3 * MAX_ENTRIES;
 
-const READING: usize = 117;
+pub(crate) const ALPHA: usize = LOOP + 3;
+
+pub(crate) const COLOR: usize = ALPHA + 25;
+
+pub(crate) const DATA: usize = COLOR + 25;
+
+pub(crate) const RECORD: usize = DATA + 2;
+
+const READING: usize = RECORD + 2;
 
 // Writes `part` at `at`; where it does not fit, nothing.
 fn put(out: &mut [u64], at: usize, part: &[u64])
@@ -106,9 +115,9 @@ fn put_head(out: &mut [u64], record: Record)
 }
 
 fn put_entries(out: &mut [u64], record: Record)
-    requires { ⌜ 60 ≤ count (now out) ⌝ }
+    requires { ⌜ loopStart ≤ count (now out) ⌝ }
     ensures { λ _. ⌜ now (out .exit) ≡ written (now (out .entry)) 12 (entriesNumbers («record» .entries)) ⌝ }
-    ensures { λ _. ⌜ count (entriesNumbers («record» .entries)) ≡ 48 ⌝ }
+    ensures { λ _. ⌜ count (entriesNumbers («record» .entries)) ≡ 3 * maxEntries ⌝ }
 {
     let entries = record.entries;
     let mut k: usize = 0;
@@ -125,14 +134,14 @@ fn put_entries(out: &mut [u64], record: Record)
 }
 
 fn put_loop(out: &mut [u64], record: Record)
-    ensures { λ _. ⌜ now (out .exit) ≡ written (now (out .entry)) 60 (loopNumbers «record») ⌝ }
+    ensures { λ _. ⌜ now (out .exit) ≡ written (now (out .entry)) loopStart (loopNumbers «record») ⌝ }
 {
     let part = [
         record.loop_count as u64,
         record.frame_period_num as u64,
         record.frame_period_den as u64,
     ];
-    put(out, 60, &part);
+    put(out, LOOP, &part);
 }
 
 fn put_header(out: &mut [u64], at: usize, header: Header)
@@ -144,10 +153,10 @@ fn put_header(out: &mut [u64], at: usize, header: Header)
 }
 
 fn put_data(out: &mut [u64], data: Range)
-    ensures { λ _. ⌜ now (out .exit) ≡ written (now (out .entry)) 113 (rangeNumbers «data») ⌝ }
+    ensures { λ _. ⌜ now (out .exit) ≡ written (now (out .entry)) dataStart (rangeNumbers «data») ⌝ }
 {
     let part = [data.start as u64, data.length as u64];
-    put(out, 113, &part);
+    put(out, DATA, &part);
 }
 
 // The numbers of a record, from the start of `out`.
@@ -162,8 +171,8 @@ fn put_record(out: &mut [u64], record: Record)
     put_head(out, record);
     put_entries(out, record);
     put_loop(out, record);
-    put_header(out, 63, alpha);
-    put_header(out, 88, color);
+    put_header(out, ALPHA, alpha);
+    put_header(out, COLOR, color);
     put_data(out, data);
 }
 

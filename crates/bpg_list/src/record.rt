@@ -1,4 +1,8 @@
 // From a list of numbers to the record that it gives: each number modulo what its field can hold.
+use crate::list::ALPHA;
+use crate::list::COLOR;
+use crate::list::DATA;
+use crate::list::LOOP;
 use crate::list::RECORD;
 use bpg_format::Entry;
 use bpg_format::Header;
@@ -10,8 +14,13 @@ use bpg_format::zero_record;
 ghost use mathlib.Core.Path.{_≡_};
 ghost use Prim.Native.Nat.{_+_, _≤_, _<_};
 ghost use lib.ListN.{length as count};
+ghost use Rattle.bpg_format.specs.Limits.{maxEntries};
 ghost use Rattle.bpg_list.specs.Numbers.{recordLength, flagAt, u8At, u16At, u32At, rangeAt, entryAt, entriesAt, rangeFlagsAt, headerAt, recordOf};
 ghost use Rattle.bpg_list.specs.Calls.{readList};
+
+const PERIOD_NUM: usize = LOOP + 1;
+
+const PERIOD_DEN: usize = LOOP + 2;
 
 fn flag(numbers: &[u64], k: usize) -> bool
     requires { ⌜ k < count (now numbers) ⌝ }
@@ -62,7 +71,7 @@ fn entry(numbers: &[u64], k: usize) -> Entry
 
 fn entries(numbers: &[u64]) -> [Entry; MAX_ENTRIES]
     requires { ⌜ recordLength ≤ count (now numbers) ⌝ }
-    ensures { λ r. ⌜ r ≡ entriesAt (now (numbers .entry)) 12 16 ⌝ }
+    ensures { λ r. ⌜ r ≡ entriesAt (now (numbers .entry)) 12 maxEntries ⌝ }
 {
     let none = zero_entry();
     let mut all = [none; MAX_ENTRIES];
@@ -122,9 +131,9 @@ fn from(numbers: &[u64]) -> Record
     ensures { λ r. ⌜ r ≡ recordOf (now (numbers .entry)) ⌝ }
 {
     let entries = entries(numbers);
-    let alpha = header(numbers, 63);
-    let color = header(numbers, 88);
-    let data = range(numbers, 113);
+    let alpha = header(numbers, ALPHA);
+    let color = header(numbers, COLOR);
+    let data = range(numbers, DATA);
     Record {
         pixel_format: u8_at(numbers, 0),
         alpha1_flag: flag(numbers, 1),
@@ -139,9 +148,9 @@ fn from(numbers: &[u64]) -> Record
         explicit_length: flag(numbers, 10),
         entry_count: u32_at(numbers, 11),
         entries,
-        loop_count: u16_at(numbers, 60),
-        frame_period_num: u16_at(numbers, 61),
-        frame_period_den: u16_at(numbers, 62),
+        loop_count: u16_at(numbers, LOOP),
+        frame_period_num: u16_at(numbers, PERIOD_NUM),
+        frame_period_den: u16_at(numbers, PERIOD_DEN),
         headers: [alpha, color],
         data,
     }

@@ -20,7 +20,7 @@ pub(crate) struct Layout {
 fn block_size(record: Record) -> u64
     requires { ⌜ «record» .«entry_count» ≤ maxEntries ⌝ }
     ensures { λ r. ⌜ r ≡ entriesSize (usedEntries «record») ⌝ }
-    ensures { λ r. ⌜ r < 2 ^ 37 ⌝ }
+    ensures { λ r. ⌜ r < 2 ^ 48 ⌝ }
 {
     let entries = record.entries;
     let count = record.entry_count as usize;
@@ -37,9 +37,9 @@ fn block_size(record: Record) -> u64
 
 // The extension length and the block, where they are there.
 fn extension_size(present: bool, block: u64) -> u64
-    requires { ⌜ block < 2 ^ 37 ⌝ }
+    requires { ⌜ block < 2 ^ 48 ⌝ }
     ensures { λ r. ⌜ r ≡ extensionSize present block ⌝ }
-    ensures { λ r. ⌜ r < 2 ^ 38 ⌝ }
+    ensures { λ r. ⌜ r < 2 ^ 49 ⌝ }
 {
     if present {
         return ue7::size(block) as u64 + block;

@@ -1,14 +1,15 @@
 -- `with_entries` meets its contract: the first entries are changed. Assumes nothing.
-use mathlib.Core.Path.{_≡_, refl, sym, ap, _∙_}
+use mathlib.Core.Path.{_≡_, refl, ap, _∙_}
 use mathlib.Core.List.{List}
 use Prim.Native.Nat.{ℕ, suc, _+_, _-_, _≤_}
 use native.Mathlib.Omega.{arith}
-use lib.ListN.{length, getD, set, length-map}
+use lib.ListN.{length, getD, set}
 use borrow.Author.Needs.{needs}
+use Rattle.bpg_format.specs.Limits.{maxEntries}
 use Rattle.bpg_format.specs.declared.record.Entry.{Entry}
 use Rattle.bpg_format.specs.declared.record.Record.{Record}
 use Rattle.bpg_format.specs.Zero.{zeroEntry}
-use Rattle.bpg_format.proofs.record.Entry as entry-type
+use Rattle.bpg_format.proofs.Typed.{entries-count}
 use Rattle.bpg_choices.specs.Records.{canonicalEntry, changed, recordWith}
 use Rattle.bpg_choices.proofs.RecordLaws.{change-next, change-most}
 use Rattle.bpg_choices.proofs.with_entries.Statement.{statement}
@@ -19,14 +20,14 @@ abbrev withEntries : Record → List Entry → Record
 withEntries r es = recordWith (r .«extension_present_flag») (r .«explicit_length») es (r .headers) r
 
 abbrev Inv-loop : tie.InvT-loop
-Inv-loop size used all₀ k₀ all k = (k ≤ used) × (used ≤ 16) × (all ≡ withEntries all₀ (changed (canonicalEntry size) k (all₀ .entries)))
+Inv-loop size used all₀ k₀ all k = (k ≤ used) × (used ≤ maxEntries) × (all ≡ withEntries all₀ (changed (canonicalEntry size) k (all₀ .entries)))
 
 abbrev μ-loop : tie.MeasureT-loop
 μ-loop size used all₀ k₀ all k = used - k
 
--- the array has sixteen entries
-sixteen : (c : tie.Start Inv-loop μ-loop) → length (c .args .«record» .entries) ≡ 16
-sixteen c = sym (length-map (c .args .«record» .entries) (entry-type.the-field .into)) ∙ c .good .0 .1 .1 .1 .1 .1 .1 .1 .1 .1 .1 .1 .1 .1 .1 .0 .1 .0 .1
+-- the array has its length
+whole : (c : tie.Start Inv-loop μ-loop) → length (c .args .«record» .entries) ≡ maxEntries
+whole c = entries-count (c .args .«record») (c .good .0)
 
 used-entries-requires : tie.Need-used-entries-requires Inv-loop μ-loop
 used-entries-requires c κs = search needs
@@ -68,7 +69,7 @@ loop-again c =
       ap (λ (r : Record). withEntries r (set (r .entries) (l .k) (c .canonical-entry .result))) (l .inv .2)
           ∙ ap (λ (e : Entry). withEntries (s .args .«record») (set (changed f (l .k) es) (l .k) e))
           (c .canonical-entry .ensures ∙ ap (λ (r : Record). f (getD (r .entries) (l .k) zeroEntry)) (l .inv .2))
-          ∙ ap (withEntries (s .args .«record»)) (change-next f es (l .k) zeroEntry (omega (arith, taken, l .inv .1, sixteen s)) ∙ ap (λ (m : ℕ). changed f m es) n),
+          ∙ ap (withEntries (s .args .«record»)) (change-next f es (l .k) zeroEntry (omega (arith, taken, l .inv .1, whole s)) ∙ ap (λ (m : ℕ). changed f m es) n),
     )
 
 returns : tie.Need-returns Inv-loop μ-loop
@@ -79,7 +80,7 @@ returns c =
     l .inv .2
     ∙ ap (withEntries r)
     (change-most (canonicalEntry (u .before .args .size)) (r .entries) (l .k) (r .«entry_count»)
-    (omega (arith, l .inv .0, c .loop-test .left, u .used-entries .ensures, sixteen (u .before))))
+    (omega (arith, l .inv .0, c .loop-test .left, u .used-entries .ensures, whole (u .before))))
 
 pub with-entries-spec : {M : Type 1} → statement M
 with-entries-spec =

@@ -1,11 +1,11 @@
 -- `with_flags` meets its contract. Assumes nothing.
-use mathlib.Core.Path.{_≡_, sym, ap, ap₂, _∙_}
+use mathlib.Core.Path.{_≡_, ap, ap₂, _∙_}
 use mathlib.Core.Bool.{false, not}
 use mathlib.Core.List.{List}
 use lib.Dec.{eqb}
-use lib.ListN.{length, set, length-map}
+use lib.ListN.{length, set}
 use Rattle.bpg_format.specs.declared.record.Header.{Header}
-use Rattle.bpg_format.proofs.record.Header as header-type
+use Rattle.bpg_format.proofs.Typed.{headers-count}
 use Rattle.bpg_choices.specs.Records.{canonicalHeader, recordWith}
 use Rattle.bpg_choices.proofs.RecordLaws.{change-both}
 use borrow.Author.Needs.{needs}
@@ -14,7 +14,7 @@ use Rattle.bpg_choices.proofs.with_flags.Tie as tie
 
 -- the array has two headers
 two : (s : tie.Start) → length (s .args .t1 .headers) ≡ 2
-two s = sym (length-map (s .args .t1 .headers) (header-type.the-field .into)) ∙ s .good .0 .1 .1 .1 .1 .1 .1 .1 .1 .1 .1 .1 .1 .1 .1 .1 .1 .1 .1 .0 .1 .0 .1
+two s = search headers-count
 
 element-copy-out-alpha : tie.Need-element-copy-out-alpha
 element-copy-out-alpha c = search needs

@@ -4,12 +4,12 @@ use mathlib.Core.Bool.{true}
 use mathlib.Core.List.{List}
 use Prim.Native.Nat.{ℕ}
 use native.Mathlib.Omega.{arith}
-use lib.ListN.{length, getD, length-map}
+use lib.ListN.{length, getD}
 use borrow.Author.Tests.{not-true, not-false}
 use Rattle.bpg_format.specs.Zero.{zeroHeader}
 use Rattle.bpg_format.specs.declared.record.Header.{Header}
 use Rattle.bpg_format.specs.Write.{absentZero}
-use Rattle.bpg_format.proofs.record.Header as header-type
+use Rattle.bpg_format.proofs.Typed.{headers-count}
 use Rattle.bpg_check.proofs.ConsistentLaws.{header-at, block, control, alpha, block-misfit, control-misfit, alpha-misfit, alpha-fields, color-decides}
 use borrow.Author.Needs.{needs}
 use Rattle.bpg_check.proofs.consistent.all.Statement.{statement}
@@ -17,7 +17,7 @@ use Rattle.bpg_check.proofs.consistent.all.Tie as tie
 
 -- the array has two headers
 two : (c : tie.Start) → length (c .args .t1 .headers) ≡ 2
-two c = sym (length-map (c .args .t1 .headers) (header-type.the-field .into)) ∙ c .good .0 .1 .1 .1 .1 .1 .1 .1 .1 .1 .1 .1 .1 .1 .1 .1 .1 .1 .1 .0 .1 .0 .1
+two c = search headers-count
 
 block-fits : (c : tie.Else1) (source : List ℕ) → block (c .before .before .args .t1) source ≡ true
 block-fits c source = sym (c .before .block-fits .ensures source) ∙ not-false _ (c .if1 .left)

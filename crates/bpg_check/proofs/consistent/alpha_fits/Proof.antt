@@ -1,9 +1,9 @@
 -- `consistent::alpha_fits` meets its contract. Assumes nothing.
 use mathlib.Core.Path.{_≡_, sym, ap, _∙_}
 use native.Mathlib.Omega.{arith}
-use lib.ListN.{length, length-map}
+use lib.ListN.{length}
 use Rattle.bpg_format.specs.Write.{headerZero}
-use Rattle.bpg_format.proofs.record.Header as header-type
+use Rattle.bpg_format.proofs.Typed.{headers-count}
 use Rattle.bpg_rules.proofs.AbsentLaws.{or-on, or-off}
 use Rattle.bpg_check.proofs.ConsistentLaws.{header-at}
 use borrow.Author.Needs.{needs}
@@ -12,7 +12,7 @@ use Rattle.bpg_check.proofs.consistent.alpha_fits.Tie as tie
 
 -- the array has two headers
 two : (c : tie.Start) → length (c .args .t1 .headers) ≡ 2
-two c = sym (length-map (c .args .t1 .headers) (header-type.the-field .into)) ∙ c .good .0 .1 .1 .1 .1 .1 .1 .1 .1 .1 .1 .1 .1 .1 .1 .1 .1 .1 .1 .0 .1 .0 .1
+two c = search headers-count
 
 has-alpha-requires : tie.Need-has-alpha-requires
 has-alpha-requires c κs = search needs

@@ -1,11 +1,11 @@
 -- `content::headers_status` meets its contract. Assumes nothing.
 use mathlib.Core.Path.{_≡_, sym, ap, _∙_}
 use native.Mathlib.Omega.{arith}
-use lib.ListN.{length, length-map}
+use lib.ListN.{length}
 use borrow.Author.Tests.{not-true, not-false}
 use Rattle.bpg_format.specs.declared.record.Header.{Header}
 use Rattle.bpg_format.specs.Write.{checkHeader}
-use Rattle.bpg_format.proofs.record.Header as header-type
+use Rattle.bpg_format.proofs.Typed.{headers-count}
 use Rattle.bpg_check.specs.Check.{statusOf}
 use Rattle.bpg_check.proofs.ConsistentLaws.{header-at}
 use Rattle.bpg_check.proofs.ContentLaws.{depth, control-missing, alpha-stops, color-decides}
@@ -15,7 +15,7 @@ use Rattle.bpg_check.proofs.content.headers_status.Tie as tie
 
 -- the array has two headers
 two : (c : tie.Start) → length (c .args .t1 .headers) ≡ 2
-two c = sym (length-map (c .args .t1 .headers) (header-type.the-field .into)) ∙ c .good .0 .1 .1 .1 .1 .1 .1 .1 .1 .1 .1 .1 .1 .1 .1 .1 .1 .1 .1 .0 .1 .0 .1
+two c = search headers-count
 
 control-fits-requires : tie.Need-control-fits-requires
 control-fits-requires c κs = search needs

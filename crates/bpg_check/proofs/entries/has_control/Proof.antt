@@ -1,12 +1,13 @@
 -- `entries::has_control` meets its contract. Assumes nothing.
-use mathlib.Core.Path.{_≡_, refl, sym, _∙_}
+use mathlib.Core.Path.{_≡_, refl}
 use mathlib.Core.List.{List, map}
 use Prim.Native.Nat.{ℕ, _-_, _≤_}
 use native.Mathlib.Omega.{arith}
-use lib.ListN.{length, take, drop, length-map}
+use lib.ListN.{length, take, drop}
+use Rattle.bpg_format.specs.Limits.{maxEntries}
 use Rattle.bpg_format.specs.Rules.{hasLoop}
 use Rattle.bpg_format.specs.Records.{extensionOf}
-use Rattle.bpg_format.proofs.record.Entry as entry-type
+use Rattle.bpg_format.proofs.Typed.{entries-count}
 use Rattle.bpg_check.proofs.EntryLaws.{control-found, control-further, no-control}
 use borrow.Author.Needs.{needs}
 use Rattle.bpg_check.proofs.entries.has_control.Statement.{statement}
@@ -19,12 +20,12 @@ Inv-loop entries count k₀ k =
 abbrev μ-loop : tie.MeasureT-loop
 μ-loop entries count k₀ k = count - k
 
--- the array has sixteen entries
-sixteen : (c : tie.Start Inv-loop μ-loop) → length (c .args .«record» .entries) ≡ 16
-sixteen c = sym (length-map (c .args .«record» .entries) (entry-type.the-field .into)) ∙ c .good .0 .1 .1 .1 .1 .1 .1 .1 .1 .1 .1 .1 .1 .1 .1 .0 .1 .0 .1
+-- the array has its length
+whole : (c : tie.Start Inv-loop μ-loop) → length (c .args .«record» .entries) ≡ maxEntries
+whole c = search entries-count
 
 most : (c : tie.Start Inv-loop μ-loop) → c .args .«record» .«entry_count» ≤ length (c .args .«record» .entries)
-most c = omega (arith, c .pre, sixteen c)
+most c = omega (arith, c .pre, whole c)
 
 cast-count : tie.Need-cast-count Inv-loop μ-loop
 cast-count c = search needs

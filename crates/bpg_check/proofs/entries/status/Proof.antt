@@ -1,13 +1,14 @@
 -- `entries::status` meets its contract: what is left of the entries gives the whole status. Assumes nothing.
-use mathlib.Core.Path.{_≡_, refl, sym, _∙_}
+use mathlib.Core.Path.{_≡_, refl}
 use mathlib.Core.Bool.{false}
 use mathlib.Core.List.{map}
 use Prim.Native.Nat.{_-_, _≤_}
 use native.Mathlib.Omega.{arith}
-use lib.ListN.{length, take, drop, length-map}
+use lib.ListN.{length, take, drop}
+use Rattle.bpg_format.specs.Limits.{maxEntries}
 use Rattle.bpg_format.specs.Records.{extensionOf, recordLoop}
 use Rattle.bpg_format.specs.Write.{checkEntries}
-use Rattle.bpg_format.proofs.record.Entry as entry-type
+use Rattle.bpg_format.proofs.Typed.{entries-count}
 use Rattle.bpg_check.specs.Check.{statusOf}
 use Rattle.bpg_check.proofs.EntryLaws.{used-inside, entry-stops, entry-goes-on, entries-done}
 use borrow.Author.Needs.{needs}
@@ -22,12 +23,12 @@ Inv-loop «record» source entries count seen₀ k₀ seen k =
 abbrev μ-loop : tie.MeasureT-loop
 μ-loop «record» source entries count seen₀ k₀ seen k = count - k
 
--- the array has sixteen entries
-sixteen : (c : tie.Start Inv-loop μ-loop) → length (c .args .«record» .entries) ≡ 16
-sixteen c = sym (length-map (c .args .«record» .entries) (entry-type.the-field .into)) ∙ c .good .0 .1 .1 .1 .1 .1 .1 .1 .1 .1 .1 .1 .1 .1 .1 .0 .1 .0 .1
+-- the array has its length
+whole : (c : tie.Start Inv-loop μ-loop) → length (c .args .«record» .entries) ≡ maxEntries
+whole c = search entries-count
 
 most : (c : tie.Start Inv-loop μ-loop) → c .args .«record» .«entry_count» ≤ length (c .args .«record» .entries)
-most c = omega (arith, c .pre .0, sixteen c)
+most c = omega (arith, c .pre .0, whole c)
 
 cast-count : tie.Need-cast-count Inv-loop μ-loop
 cast-count c = search needs

@@ -1,8 +1,9 @@
 -- `header::encode` meets its contract: the groups of fields are added to an empty buffer, one after another. Assumes nothing.
-use mathlib.Core.Path.{_≡_, sym, _∙_}
+use mathlib.Core.Path.{_≡_}
 use native.Mathlib.Omega.{arith}
-use lib.ListN.{length, length-map}
+use lib.ListN.{length}
 use borrow.Author.Needs.{needs}
+use Rattle.bpg_format.proofs.Typed.{flags-count}
 use Rattle.bpg_encode.proofs.AddingLaws.{added-then}
 use Rattle.bpg_encode.proofs.HeaderLaws.{header-short, header-gathered}
 use Rattle.bpg_encode.proofs.header.encode.Statement.{statement}
@@ -10,7 +11,7 @@ use Rattle.bpg_encode.proofs.header.encode.Tie as tie
 
 -- the array has nine flags
 nine : (c : tie.Start) → length (c .args .header .«range_flags») ≡ 9
-nine c = sym (length-map (c .args .header .«range_flags») (λ v. v)) ∙ c .good .0 .1 .1 .1 .1 .1 .1 .1 .1 .1 .1 .1 .1 .1 .1 .1 .1 .1 .1 .0 .1 .0 .1
+nine c = search flags-count
 
 empty-requires : tie.Need-empty-requires
 empty-requires c κs = search needs

@@ -1,12 +1,13 @@
 -- `range_flags::add_all` meets its contract. The invariant: the flags up to k are added. Assumes nothing.
-use mathlib.Core.Path.{_≡_, sym, _∙_}
+use mathlib.Core.Path.{_≡_}
 use mathlib.Core.Bool.{Bool, false}
 use mathlib.Core.List.{List, [], _∷_}
 use Prim.Native.Nat.{ℕ, suc, _+_, _-_, _≤_, _<_}
 use native.Mathlib.Omega.{arith}
-use lib.ListN.{length, take, getD, length-map}
+use lib.ListN.{length, take, getD}
 use lib.Seq.{take-all, take-suc}
 use borrow.Author.Needs.{needs}
+use Rattle.bpg_format.proofs.Typed.{flags-count}
 use Rattle.bpg_bit_buffer.specs.declared.BitBuffer.{BitBuffer}
 use Rattle.bpg_encode.specs.Adding.{Added}
 use Rattle.bpg_encode.proofs.AddingLaws.{added-nothing, added-then}
@@ -21,7 +22,7 @@ abbrev μ-loop : tie.MeasureT-loop
 
 -- the array has nine flags
 nine : (c : tie.Start Inv-loop μ-loop) → length (c .args .t2 .«range_flags») ≡ 9
-nine c = sym (length-map (c .args .t2 .«range_flags») (λ v. v)) ∙ c .good .1 .0 .1 .1 .1 .1 .1 .1 .1 .1 .1 .1 .1 .1 .1 .1 .1 .1 .1 .1 .0 .1 .0 .1
+nine c = search flags-count
 
 -- one flag more
 more : {b c d : BitBuffer} (flags : List Bool) (k : ℕ) → k < length flags → Added b (take k flags) c → Added c (getD flags k false ∷ []) d

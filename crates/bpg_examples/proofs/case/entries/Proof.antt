@@ -3,11 +3,12 @@ use Prim.Native.Nat.{_≤_, _-_}
 use mathlib.Core.Path.{_≡_}
 use lib.ListN.{length}
 use borrow.Author.Needs.{needs}
+use Rattle.bpg_format.specs.Limits.{maxEntries}
 use Rattle.bpg_examples.proofs.case.entries.Statement.{statement}
 use Rattle.bpg_examples.proofs.case.entries.Tie as tie
 
 abbrev Inv-loop : tie.InvT-loop
-Inv-loop s at all₀ k₀ all k = (k ≤ 16) × (length all ≡ 16)
+Inv-loop s at all₀ k₀ all k = (k ≤ 16) × (length all ≡ maxEntries)
 
 abbrev μ-loop : tie.MeasureT-loop
 μ-loop s at all₀ k₀ all k = 16 - k

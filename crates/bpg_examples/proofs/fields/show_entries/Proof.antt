@@ -1,14 +1,15 @@
 -- `fields::show_entries` meets its contract. Assumes nothing.
 use Prim.Native.Nat.{_≤_, _-_}
 use borrow.Author.Needs.{needs}
+use Rattle.bpg_format.specs.Limits.{maxEntries}
 use Rattle.bpg_examples.proofs.fields.show_entries.Statement.{statement}
 use Rattle.bpg_examples.proofs.fields.show_entries.Tie as tie
 
 abbrev Inv-loop : tie.InvT-loop
-Inv-loop «record» i₀ t5 i = i ≤ 16
+Inv-loop «record» i₀ t5 i = i ≤ maxEntries
 
 abbrev μ-loop : tie.MeasureT-loop
-μ-loop «record» i₀ t5 i = 16 - i
+μ-loop «record» i₀ t5 i = maxEntries - i
 
 slice-aggregate-show : tie.Need-slice-aggregate-show Inv-loop μ-loop
 slice-aggregate-show c = search needs

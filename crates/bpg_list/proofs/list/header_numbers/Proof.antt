@@ -1,6 +1,7 @@
 -- `list::header_numbers` meets its contract. Assumes nothing.
-use mathlib.Core.Path.{_≡_, sym, _∙_}
-use lib.ListN.{length, length-map}
+use mathlib.Core.Path.{_≡_}
+use lib.ListN.{length}
+use Rattle.bpg_format.proofs.Typed.{flags-count}
 use Rattle.bpg_list.specs.Numbers.{headerNumbers}
 use Rattle.bpg_list.proofs.NumberLaws.{flag-number, nine-flags, header-length}
 use borrow.Author.Needs.{needs}
@@ -110,7 +111,7 @@ cast-t70 : tie.Need-cast-t70
 cast-t70 c = search needs
 
 nine : (c : tie.Start) → length (c .args .t1 .«range_flags») ≡ 9
-nine c = sym (length-map (c .args .t1 .«range_flags») (λ v. v)) ∙ c .good .0 .1 .1 .1 .1 .1 .1 .1 .1 .1 .1 .1 .1 .1 .1 .1 .1 .1 .1 .0 .1 .0 .1
+nine c = search flags-count
 
 returns : tie.Need-returns
 unfolding headerNumbers

@@ -3,7 +3,7 @@ use mathlib.Core.Path.{ap, _∙_}
 use mathlib.Core.List.{List}
 use Prim.Native.Nat.{ℕ}
 use lib.ListN.{replicate}
-use Rattle.bpg_list.specs.Numbers.{beginsWith}
+use Rattle.bpg_list.specs.Numbers.{recordLength, beginsWith}
 use Rattle.bpg_list.proofs.NumberLaws.{written-whole}
 use borrow.Author.Needs.{needs}
 use Rattle.bpg_list.proofs.list.is_of.Statement.{statement}
@@ -25,7 +25,7 @@ returns : tie.Need-returns
 returns c =
     let w = c .before .before .before in
     let s = w .before .before .before in
-    c .begins-with .ensures ∙ ap (λ (l : List ℕ). beginsWith l (s .args .numbers .now)) (w .put-record .ensures .0 ∙ written-whole (replicate 115 0) _ (w .put-record .ensures .1))
+    c .begins-with .ensures ∙ ap (λ (l : List ℕ). beginsWith l (s .args .numbers .now)) (w .put-record .ensures .0 ∙ written-whole (replicate recordLength 0) _ (w .put-record .ensures .1))
 
 pub is-of-spec : {M : Type 1} → statement M
 is-of-spec =

@@ -1,37 +1,38 @@
 -- `list::put_entries` meets its contract: the entries so far are written. Assumes nothing.
-use mathlib.Core.Path.{_≡_, sym, ap, _∙_}
+use mathlib.Core.Path.{_≡_, ap, _∙_}
 use mathlib.Core.List.{List}
 use Prim.Native.Nat.{ℕ, _-_, _≤_}
 use native.Mathlib.Omega.{arith}
-use lib.ListN.{length, take, length-map}
+use lib.ListN.{length, take}
 use borrow.Author.Needs.{needs}
 use Rattle.bpg_codec.specs.Buffer.{written}
 use Rattle.bpg_codec.proofs.Buffer.{stored-none}
+use Rattle.bpg_format.specs.Limits.{maxEntries}
 use Rattle.bpg_format.specs.declared.record.Entry.{Entry}
-use Rattle.bpg_format.proofs.record.Entry as entry-type
-use Rattle.bpg_list.specs.Numbers.{entriesNumbers}
+use Rattle.bpg_format.proofs.Typed.{entries-count}
+use Rattle.bpg_list.specs.Numbers.{loopStart, entriesNumbers}
 use Rattle.bpg_list.proofs.NumberLaws.{written-length, first-length, entry-written, entries-written}
 use Rattle.bpg_list.proofs.list.put_entries.Statement.{statement}
 use Rattle.bpg_list.proofs.list.put_entries.Tie as tie
 
 abbrev Inv-loop : tie.InvT-loop
-Inv-loop out₀ entries k₀ out k = (k ≤ 16) × (out ≡ written out₀ 12 (entriesNumbers (take k entries)))
+Inv-loop out₀ entries k₀ out k = (k ≤ maxEntries) × (out ≡ written out₀ 12 (entriesNumbers (take k entries)))
 
 abbrev μ-loop : tie.MeasureT-loop
-μ-loop out₀ entries k₀ out k = 16 - k
+μ-loop out₀ entries k₀ out k = maxEntries - k
 
 -- where the loop began
 module _ (s : tie.Start Inv-loop μ-loop) where
   abbrev es : List Entry
   es = s .args .«record» .entries
 
-  sixteen : length es ≡ 16
-  sixteen = sym (length-map es (entry-type.the-field .into)) ∙ s .good .1 .0 .1 .1 .1 .1 .1 .1 .1 .1 .1 .1 .1 .1 .1 .1 .0 .1 .0 .1
+  whole : length es ≡ maxEntries
+  whole = search entries-count
 
   abbrev out : List ℕ
   out = s .args .out .now
 
-none : (l : List ℕ) (es : List Entry) → 60 ≤ length l → l ≡ written l 12 (entriesNumbers (take 0 es))
+none : (l : List ℕ) (es : List Entry) → loopStart ≤ length l → l ≡ written l 12 (entriesNumbers (take 0 es))
 unfolding entriesNumbers
 none l es h = stored-none l 12 (omega arith) .0
 
@@ -42,7 +43,7 @@ mul-entry : tie.Need-mul-entry Inv-loop μ-loop
 mul-entry c = omega arith
 
 array-copy-out-entry : tie.Need-array-copy-out-entry Inv-loop μ-loop
-array-copy-out-entry c = omega (arith, sixteen (c .before .before .before .before))
+array-copy-out-entry c = omega (arith, whole (c .before .before .before .before))
 
 cast-t12 : tie.Need-cast-t12 Inv-loop μ-loop
 cast-t12 c = search needs
@@ -76,19 +77,19 @@ loop-again c =
     let w = c .before .before in
     let t = w .before .before .before .before .before .before .before in
     let s = t .before .before .before .before in
-    (omega (arith, t .loop-test .taken), entry-written (out s) (es s) (sixteen s) (s .pre) (t .before .loop .k) _ (t .before .loop .out) _ (t .loop-test .taken) (t .before .loop .inv .1) (w .put .ensures))
+    (omega (arith, t .loop-test .taken), entry-written (out s) (es s) (whole s) (s .pre) (t .before .loop .k) _ (t .before .loop .out) _ (t .loop-test .taken) (t .before .loop .inv .1) (w .put .ensures))
 
 same-length : tie.Need-same-length Inv-loop μ-loop
 same-length c =
     let s = c .before .before .before .before in
     let k = c .before .loop .k in
     ap length (c .before .loop .inv .1)
-    ∙ written-length (out s) 12 (entriesNumbers (take k (es s))) (omega (arith, s .pre, c .before .loop .inv .0, first-length (out s) (es s) (sixteen s) (s .pre) k (c .before .loop .inv .0)))
+    ∙ written-length (out s) 12 (entriesNumbers (take k (es s))) (omega (arith, s .pre, c .before .loop .inv .0, first-length (out s) (es s) (whole s) (s .pre) k (c .before .loop .inv .0)))
 
 returns : tie.Need-returns Inv-loop μ-loop
 returns c =
     let s = c .before .before .before .before in
-    entries-written (out s) (es s) (sixteen s) (s .pre) (c .before .loop .k) _ (omega (arith, c .loop-test .left, c .before .loop .inv .0)) (c .before .loop .inv .1)
+    entries-written (out s) (es s) (whole s) (s .pre) (c .before .loop .k) _ (omega (arith, c .loop-test .left, c .before .loop .inv .0)) (c .before .loop .inv .1)
 
 pub put-entries-spec : {M : Type 1} → statement M
 put-entries-spec =

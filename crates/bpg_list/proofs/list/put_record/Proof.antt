@@ -1,7 +1,7 @@
 -- `list::put_record` meets its contract: the parts in a row are the list. Assumes nothing.
-use mathlib.Core.Path.{_≡_, sym, _∙_}
-use lib.ListN.{length, length-map}
-use Rattle.bpg_format.proofs.record.Header as header-type
+use mathlib.Core.Path.{_≡_}
+use lib.ListN.{length}
+use Rattle.bpg_format.proofs.Typed.{headers-count}
 use Rattle.bpg_list.proofs.NumberLaws.{record-written}
 use borrow.Author.Needs.{needs}
 use Rattle.bpg_list.proofs.list.put_record.Statement.{statement}
@@ -35,7 +35,7 @@ same-length : tie.Need-same-length
 same-length c = search needs
 
 two : (s : tie.Start) → length (s .args .t2 .headers) ≡ 2
-two s = sym (length-map (s .args .t2 .headers) (header-type.the-field .into)) ∙ s .good .1 .0 .1 .1 .1 .1 .1 .1 .1 .1 .1 .1 .1 .1 .1 .1 .1 .1 .1 .1 .0 .1 .0 .1
+two s = search headers-count
 
 returns : tie.Need-returns
 returns c =

@@ -7,6 +7,7 @@ use native.Mathlib.Omega.{arith}
 use lib.ListN.{length, take, set, length-set}
 use lib.Seq.{take-all, take-suc-set}
 use borrow.Author.Needs.{needs}
+use Rattle.bpg_format.specs.Limits.{maxEntries}
 use Rattle.bpg_format.specs.declared.record.Entry.{Entry}
 use Rattle.bpg_list.specs.Numbers.{entryAt, entriesAt}
 use Rattle.bpg_list.proofs.NumberLaws.{entries-more}
@@ -14,10 +15,10 @@ use Rattle.bpg_list.proofs.record.entries.Statement.{statement}
 use Rattle.bpg_list.proofs.record.entries.Tie as tie
 
 abbrev Inv-loop : tie.InvT-loop
-Inv-loop numbers all₀ k₀ all k = (k ≤ 16) × (length all ≡ 16) × (take k all ≡ entriesAt numbers 12 k)
+Inv-loop numbers all₀ k₀ all k = (k ≤ maxEntries) × (length all ≡ maxEntries) × (take k all ≡ entriesAt numbers 12 k)
 
 abbrev μ-loop : tie.MeasureT-loop
-μ-loop numbers all₀ k₀ all k = 16 - k
+μ-loop numbers all₀ k₀ all k = maxEntries - k
 
 none : (numbers : List ℕ) → [] ≡ entriesAt numbers 12 0
 unfolding entriesAt
@@ -28,7 +29,7 @@ step : (numbers : List ℕ) (all : List Entry) (k : ℕ) (e : Entry) → k < len
     → take (k + 1) (set all k e) ≡ entriesAt numbers 12 (k + 1)
 step numbers all k e h p q = rw (add-one, take-suc-set, p, q) (sym (entries-more numbers 12 k))
 
-all-entries : (numbers : List ℕ) (all : List Entry) (k : ℕ) → k ≡ 16 → length all ≡ 16 → take k all ≡ entriesAt numbers 12 k → all ≡ entriesAt numbers 12 16
+all-entries : (numbers : List ℕ) (all : List Entry) (k : ℕ) → k ≡ maxEntries → length all ≡ maxEntries → take k all ≡ entriesAt numbers 12 k → all ≡ entriesAt numbers 12 maxEntries
 all-entries numbers all k e n p = sym (take-all k all (omega arith)) ∙ p ∙ ap (entriesAt numbers 12) e
 
 zero-entry-requires : tie.Need-zero-entry-requires Inv-loop μ-loop

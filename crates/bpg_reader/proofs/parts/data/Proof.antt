@@ -5,6 +5,7 @@ use native.Mathlib.Omega.{arith}
 use Rattle.bpg_codec.proofs.Tokens.{all-bytes}
 use Rattle.bpg_format.specs.declared.answer.Reading.{Reading}
 use Rattle.bpg_format.specs.Parts.{rangeEnd}
+use Rattle.bpg_format.proofs.Typed.{data-fits}
 use Rattle.bpg_reader.proofs.PartLaws.{data-inside, data-bytes}
 use borrow.Author.Needs.{needs}
 use Rattle.bpg_reader.proofs.parts.data.Statement.{statement}
@@ -17,10 +18,10 @@ cast-start : tie.Need-cast-start
 cast-start c = search needs
 
 cast-result : tie.Need-cast-result
-cast-result c = search needs
+cast-result c = record { fits = omega (arith, data-fits (c .before .before .before .read .result .«record») (c .struct-known2 .given)) }
 
 add-result : tie.Need-add-result
-add-result c = search needs
+add-result c = record { fits = omega (arith, data-fits (c .before .before .before .read .result .«record») (c .struct-known2 .given)) }
 
 sub-result : tie.Need-sub-result
 sub-result c = search needs

@@ -1,8 +1,9 @@
 -- `absent::no_range_flag` meets its contract: the flags that are left decide. Assumes nothing.
-use mathlib.Core.Path.{_≡_, refl, sym, _∙_}
+use mathlib.Core.Path.{_≡_, refl}
 use Prim.Native.Nat.{_-_}
 use native.Mathlib.Omega.{arith}
-use lib.ListN.{length, drop, length-map}
+use lib.ListN.{length, drop}
+use Rattle.bpg_format.proofs.Typed.{flags-count}
 use Rattle.bpg_codec.specs.Bits.{allZero}
 use Rattle.bpg_rules.proofs.AbsentLaws.{flag-set, flag-clear, flags-clear}
 use borrow.Author.Needs.{needs}
@@ -17,7 +18,7 @@ abbrev μ-loop : tie.MeasureT-loop
 
 -- the array has nine flags
 nine : (c : tie.Start Inv-loop μ-loop) → length (c .args .t1 .«range_flags») ≡ 9
-nine c = sym (length-map (c .args .t1 .«range_flags») (λ v. v)) ∙ c .good .0 .1 .1 .1 .1 .1 .1 .1 .1 .1 .1 .1 .1 .1 .1 .1 .1 .1 .1 .0 .1 .0 .1
+nine c = search flags-count
 
 loop-holds : tie.Need-loop-holds Inv-loop μ-loop
 loop-holds c = refl

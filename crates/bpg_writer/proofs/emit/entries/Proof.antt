@@ -1,14 +1,16 @@
 -- `emit::entries` meets its contract: the entries so far are written. Assumes nothing.
-use mathlib.Core.Path.{_≡_, sym, ap, _∙_}
+use mathlib.Core.Path.{_≡_, sym, ap}
 use mathlib.Core.List.{List, _++_, map}
 use Prim.Native.Nat.{ℕ, _+_, _-_, _≤_, _<_}
 use native.Mathlib.Omega.{arith}
-use lib.ListN.{length, take, getD, length-append, length-map}
+use lib.ListN.{length, take, getD, length-append}
 use borrow.Author.Needs.{needs}
+use Rattle.bpg_format.specs.Limits.{maxEntries}
 use Rattle.bpg_format.specs.declared.record.Entry.{Entry}
 use Rattle.bpg_format.specs.Zero.{zeroEntry}
 use Rattle.bpg_format.specs.Syntax.{extensionBytes, blockBytes}
 use Rattle.bpg_format.specs.Records.{extensionOf}
+use Rattle.bpg_format.proofs.Typed.{entries-count}
 use Rattle.bpg_writer.specs.Parts.{RangeInside}
 use Rattle.bpg_writer.proofs.PutLaws.{Put, put-end, put-none, put-then, put-same}
 use Rattle.bpg_writer.proofs.PartLaws.{bytes-next, bytes-grow, nth-used}
@@ -24,8 +26,8 @@ abbrev μ-loop : tie.MeasureT-loop
 
 -- where the loop began
 module _ (s : tie.Start Inv-loop μ-loop) where
-  sixteen : length (s .args .«record» .entries) ≡ 16
-  sixteen = sym (length-map (s .args .«record» .entries) (Rattle.bpg_format.proofs.record.Entry.the-field .into)) ∙ s .good .1 .1 .0 .1 .1 .1 .1 .1 .1 .1 .1 .1 .1 .1 .1 .1 .1 .0 .1 .0 .1
+  whole : length (s .args .«record» .entries) ≡ maxEntries
+  whole = search entries-count
 
   -- the bytes of the first k entries
   abbrev first : ℕ → List ℕ
@@ -43,7 +45,7 @@ module _ (c : tie.In-loop Inv-loop μ-loop) where
   k = c .before .loop .k
 
   inside : k < length (start .args .«record» .entries)
-  inside = omega (arith, sixteen start, start .pre .0, c .loop-test .taken)
+  inside = omega (arith, whole start, start .pre .0, c .loop-test .taken)
 
   more : first start (k + 1) ≡ first start k ++ extensionBytes (extensionOf (start .args .source .now) (getD (start .args .«record» .entries) k zeroEntry))
   more = bytes-next (start .args .source .now) (start .args .«record» .entries) k inside

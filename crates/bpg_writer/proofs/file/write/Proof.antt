@@ -4,7 +4,7 @@ use mathlib.Core.Bool.{Bool, true, _||_}
 use mathlib.Core.List.{List}
 use Prim.Native.Nat.{ℕ, _≤_}
 use native.Mathlib.Omega.{arith}
-use lib.ListN.{length, getD, length-map}
+use lib.ListN.{length, getD}
 use Rattle.bpg_codec.specs.Outcome.{ok}
 use Rattle.bpg_codec.specs.Buffer.{written}
 use Rattle.bpg_format.specs.declared.record.Header.{Header}
@@ -13,7 +13,7 @@ use Rattle.bpg_format.specs.Zero.{zeroHeader}
 use Rattle.bpg_format.specs.Syntax.{fileOf}
 use Rattle.bpg_format.specs.Records.{usedEntries, contentOf}
 use Rattle.bpg_format.specs.Write.{checkRecord}
-use Rattle.bpg_format.proofs.record.Header as header-type
+use Rattle.bpg_format.proofs.Typed.{headers-count}
 use Rattle.bpg_check.proofs.ConsistentLaws.{header-at}
 use Rattle.bpg_check.proofs.Judgement.{check-passes}
 use Rattle.bpg_writer.specs.declared.layout.Layout.{Layout}
@@ -51,7 +51,7 @@ module _ (c : tie.After-encoded2) where
   r = start begun .args .t1
 
   two : length (r .headers) ≡ 2
-  two = sym (length-map (r .headers) (header-type.the-field .into)) ∙ start begun .good .0 .1 .1 .1 .1 .1 .1 .1 .1 .1 .1 .1 .1 .1 .1 .1 .1 .1 .1 .0 .1 .0 .1
+  two = search headers-count
 
   alpha-encoded : Encoded (r .«alpha1_flag» || r .«alpha2_flag») (getD (r .headers) 0 zeroHeader) (c .before .encoded .result)
   alpha-encoded =

@@ -1,12 +1,14 @@
 -- `layout::block_size` meets its contract: the size so far is that of the entries so far. Assumes nothing.
-use mathlib.Core.Path.{_≡_, refl, sym, ap, _∙_}
+use mathlib.Core.Path.{_≡_, refl, ap, _∙_}
 use Prim.Native.Nat.{ℕ, _-_, _*_, _≤_}
 use native.Mathlib.Omega.{arith}
-use lib.ListN.{length, take, getD, length-map}
+use lib.ListN.{length, take, getD}
 use borrow.Author.Needs.{needs}
 use Rattle.bpg_numbers.proofs.Ue7Laws.{size-most}
+use Rattle.bpg_format.specs.Limits.{maxEntries}
 use Rattle.bpg_format.specs.declared.record.Entry.{Entry}
 use Rattle.bpg_format.specs.Zero.{zeroEntry}
+use Rattle.bpg_format.proofs.Typed.{entries-count}
 use Rattle.bpg_writer.specs.Layouts.{entriesSize}
 use Rattle.bpg_writer.proofs.LayoutLaws.{entries-next}
 use Rattle.bpg_writer.proofs.layout.block_size.Statement.{statement}
@@ -22,8 +24,8 @@ Inv-loop entries count size₀ k₀ size k = (k ≤ count) × (size ≡ entriesS
 abbrev μ-loop : tie.MeasureT-loop
 μ-loop entries count size₀ k₀ size k = count - k
 
-sixteen : (c : tie.Start Inv-loop μ-loop) → length (c .args .«record» .entries) ≡ 16
-sixteen c = sym (length-map (c .args .«record» .entries) (Rattle.bpg_format.proofs.record.Entry.the-field .into)) ∙ c .good .0 .1 .1 .1 .1 .1 .1 .1 .1 .1 .1 .1 .1 .1 .1 .0 .1 .0 .1
+whole : (c : tie.Start Inv-loop μ-loop) → length (c .args .«record» .entries) ≡ maxEntries
+whole c = search entries-count
 
 -- an entry was measured
 module _ (c : tie.After-size2 Inv-loop μ-loop) where
@@ -84,7 +86,7 @@ loop-less c = omega arith
 loop-again : tie.Need-loop-again Inv-loop μ-loop
 loop-again c =
     let l = turn c .loop in
-    let n = entries-next (start c .args .«record» .entries) (l .k) (omega (arith, sixteen (start c), start c .pre)) in
+    let n = entries-next (start c .args .«record» .entries) (l .k) (omega (arith, whole (start c), start c .pre)) in
     (omega arith, omega (arith, n, l .inv .1, c .before .size .ensures, c .size2 .ensures), omega (arith, tag-size c, length-size c, l .inv .2))
 
 returns : tie.Need-returns Inv-loop μ-loop
