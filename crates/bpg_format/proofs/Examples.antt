@@ -16,7 +16,7 @@ use Rattle.bpg_format.specs.Records.{headEnd, blockStart, dataStart, rec
 use Rattle.bpg_format.specs.Parts.{entryOf}
 use Rattle.bpg_format.specs.Write.{rangesInSource, unusedZero, absentZero, headerZero, consistent, checkLoop, checkEntries, fieldsCoded, checkHeader, checkContent, checkRecord, sizedFile, writeOutcome, writeFile, writeBuffer}
 use Rattle.bpg_format.specs.Pictures.{pictureOf, withChoices, canonicalContent, canonicalBytes, canonicalOutcome, canonicalFile, canonicalBuffer}
-use Rattle.bpg_format.specs.Requirements.{count, bytes}
+use Rattle.bpg_format.specs.Requirements.{bytes}
 use Rattle.bpg_format.specs.Examples.{fileA, fileB, fileC, fileD, readingA, Holds, examples}
 
 pub record Answers : Type 0 where
@@ -30,12 +30,12 @@ pub record Answers : Type 0 where
   pub a-written : writeFile (readingA .«record») fileA (replicate 16 0) .status ≡ 0
   pub a-bytes : writeBuffer (readingA .«record») fileA (replicate 16 0) ≡ fileA
   pub a-canonical : canonicalFile fileA (replicate 16 0) .status ≡ 0
-  pub a-count : count fileA (replicate 16 0) ≡ 16
+  pub a-count : canonicalFile fileA (replicate 16 0) .count ≡ 16
   pub b-canonical : canonicalFile fileB (replicate 16 0) .status ≡ 0
   pub b-bytes : canonicalBuffer fileB (replicate 16 0) ≡ fileA
-  pub b-written : bytes fileB (replicate 16 0) ≡ fileA
+  pub b-written : bytes (canonicalFile fileB (replicate 16 0)) (canonicalBuffer fileB (replicate 16 0)) ≡ fileA
   pub c-canonical : canonicalFile fileC (replicate 22 0) .status ≡ 0
-  pub c-count : count fileC (replicate 22 0) ≡ 22
+  pub c-count : canonicalFile fileC (replicate 22 0) .count ≡ 22
 
 computed : All Holds examples × Answers
 unfolding select guarded thenRest rest bits unpack pack padded groups ue7Bytes ue7Rest ue7Decode leadingZeros prefixDecode expGolombBits extensionPart headerBits headerBytes bodyBytes dataLength fileOf readFlags loopIn loopOf loopNumbers period noForbiddenBit pcmAllowed hevcAllowed readLoop readEntry readEntries readBlock readSizes readPcm readSps readFields readHeader readAlphaHeader readContent headEnd blockStart dataStart recordOf readFile pictureOf withChoices canonicalContent canonicalBytes canonicalOutcome canonicalBuffer rangesInSource unusedZero absentZero headerZero consistent checkLoop checkEntries fieldsCoded checkHeader checkContent sizedFile checkRecord writeOutcome writeFile writeBuffer contentOf entryOf canonicalFile

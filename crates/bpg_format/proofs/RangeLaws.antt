@@ -3,20 +3,20 @@ use mathlib.Core.Path.{_≡_, refl, sym, ap, _∙_, subst}
 use mathlib.Core.List.{List, [], _∷_, _++_, map}
 use Prim.Native.Nat.{ℕ, zero, suc, _+_, _-_, _≤_, _<_}
 use native.Mathlib.Omega.{arith}
-use lib.ListN.{length, drop, getD, length-append, take-append-drop}
+use lib.ListN.{length, drop, getD, length-append, length-map, length-take, length-drop, take-append-drop}
 use lib.Seq.{drop-drop}
 use Rattle.bpg_numbers.specs.Ue7.{ue7Bytes}
 use Rattle.bpg_codec.proofs.Lists.{either-way}
 use Rattle.bpg_format.specs.declared.record.Range.{Range}
 use Rattle.bpg_format.specs.declared.record.Entry.{Entry}
-use Rattle.bpg_format.specs.Zero.{range}
+use Rattle.bpg_format.specs.Zero.{range, zeroEntry}
 use Rattle.bpg_format.specs.Content.{Extension, Content}
 use Rattle.bpg_format.specs.Syntax.{blockBytes, fileOf}
 use Rattle.bpg_format.specs.Rules.{Rules}
-use Rattle.bpg_format.specs.Records.{entriesAt, blockStart, dataStart, recordOf, bytesIn}
+use Rattle.bpg_format.specs.Records.{entriesAt, blockStart, dataStart, recordOf, usedEntries, bytesIn}
 use Rattle.bpg_format.specs.Parts.{rangesOf, rangeEnd, InOrder, joined, Inside}
 use Rattle.bpg_format.proofs.RuleLaws.{entry-size}
-use Rattle.bpg_format.proofs.RecordLaws.{used-entries, beforeData, data-file, data-length}
+use Rattle.bpg_format.proofs.RecordLaws.{used-entries, entries-length, beforeData, data-file, data-length}
 
 abbrev payloads : List Entry → List Range
 payloads es = map (λ (e : Entry). e .payload) es
@@ -98,6 +98,26 @@ data-last c r = sym (data-end c r)
 
 pub ranges-whole : (c : Content) → Rules c → joined 0 (rangesOf (recordOf c)) (fileOf c) ≡ fileOf c
 ranges-whole c r = join 0 (rangesOf (recordOf c)) (length (fileOf c)) (fileOf c) (ascend c r)
+
+-- part k is the payload of entry k, and the part after the last payload is the data
+pub payload-part : (es : List Entry) (d : Range) (k : ℕ) → k < length es → getD es k zeroEntry .payload ≡ getD (payloads es ++ (d ∷ [])) k (range 0 0)
+payload-part [] d k h = absurd (omega arith)
+payload-part (e ∷ es) d zero h = refl
+payload-part (e ∷ es) d (suc k) h = payload-part es d k (omega arith)
+
+pub last-part : (es : List Entry) (d : Range) → d ≡ getD (payloads es ++ (d ∷ [])) (length es) (range 0 0)
+last-part [] d = refl
+last-part (e ∷ es) d = last-part es d
+
+pub parts-length : (es : List Entry) (d : Range) → length (payloads es ++ (d ∷ [])) ≡ length es + 1
+parts-length es d = simp (length-append, length-map)
+
+pub part-length : (f : List ℕ) (r : Range) → rangeEnd r ≤ length f → length (bytesIn f r) ≡ r .length
+part-length f r h = simp (length-take, length-drop) (omega arith)
+
+pub used-count : (c : Content) → length (usedEntries (recordOf c)) ≡ recordOf c .«entry_count»
+unfolding recordOf
+used-count c = ap length (used-entries (blockStart c) (c .extensions)) ∙ entries-length (blockStart c) (c .extensions)
 
 -- an offset that lies in two of them lies in one and the same
 pub one-range : (rs : List Range) (size offset i j : ℕ) → InOrder rs size → i < length rs → j < length rs

@@ -2,44 +2,40 @@
 use mathlib.Core.Path.{_≡_, refl, sym, ap, _∙_, subst}
 use mathlib.Core.Bool.{Bool, true, false}
 use mathlib.Core.List.{List, []}
-use mathlib.Core.Logic.{_↔_, _≢_}
-use Prim.Native.Nat.{ℕ, _≤_}
+use mathlib.Core.Logic.{_↔_, _≢_, inl, inr}
+use Prim.Native.Nat.{ℕ, _+_, _≤_, _<_}
 use native.Mathlib.Omega.{arith}
 use lib.Dec.{leb}
-use lib.ListN.{length, take, drop, length-take, List·getD-eq-default}
+use lib.ListN.{length, take, drop, getD, length-take, List·getD-eq-default, List·getD-map}
 use lib.Seq.{take-append-seam, drop-append-seam}
-use borrow.Author.Tests.{le-leb}
+use borrow.Author.Tests.{le-leb, lt-leb}
 use Rattle.bpg_codec.specs.Outcome.{Outcome, ok, error, _>>=_, guard}
 use Rattle.bpg_codec.specs.Lawful.{All, Byte}
 use Rattle.bpg_codec.proofs.Refusals.{Refuses}
+use Rattle.bpg_format.specs.declared.record.Range.{Range}
 use Rattle.bpg_format.specs.declared.record.Entry.{Entry}
 use Rattle.bpg_format.specs.declared.record.Record.{Record}
 use Rattle.bpg_format.specs.declared.answer.Reading.{Reading as Answer}
 use Rattle.bpg_format.specs.Zero.{zeroEntry, refusedWritten}
-use Rattle.bpg_format.specs.Content.{Content}
+use Rattle.bpg_format.specs.Content.{Extension, Content}
 use Rattle.bpg_format.specs.Syntax.{fileOf}
 use Rattle.bpg_format.specs.Rules.{Rules, Accepted}
-use Rattle.bpg_format.specs.Records.{recordOf, usedEntries, contentOf, readFile, bytesIn}
-use Rattle.bpg_format.specs.Read.{readContent, ReadingStatus}
-use Rattle.bpg_format.specs.Parts.{entryOf, payloadOf, dataOf, rangesOf}
+use Rattle.bpg_format.specs.Records.{recordOf, extensionOf, usedEntries, contentOf, answerOf, readFile, bytesIn}
+use Rattle.bpg_format.specs.Read.{readContent}
+use Rattle.bpg_format.specs.Parts.{entryOf, payloadOf, dataOf, rangesOf, rangeEnd, InOrder, joined}
 use Rattle.bpg_format.specs.Write.{writeOutcome, writtenAnswer, writtenBuffer, writeFile, writeBuffer, WritingStatus, Typed, Writable}
-use Rattle.bpg_format.specs.Pictures.{Picture, pictureOf, canonicalContent, canonicalBytes, Shows, SamePicture, canonicalOutcome, canonicalFile, canonicalBuffer}
-use Rattle.bpg_format.specs.Requirements.{Refusals, Reading, Writing, Ranges, count, bytes, OneFormPerPicture}
+use Rattle.bpg_format.specs.Pictures.{Picture, pictureOf, canonicalContent, canonicalBytes, Shows, SamePicture, canonicalOutcome, canonicalFile, canonicalBuffer, CanonicalizingStatus}
+use Rattle.bpg_format.specs.Requirements.{noExtension, Refusals, Reading, Writing, Ranges, parts, part, RangesApart, bytes, OneFormPerPicture}
 use Rattle.bpg_format.proofs.Reading.{reads, answer, accepted-status, status-accepted, refusal, statuses, content-unique}
 use Rattle.bpg_format.proofs.ReadingRefusals.{content-refuses}
 use Rattle.bpg_format.proofs.RecordLaws.{content-record}
-use Rattle.bpg_format.proofs.RangeLaws.{ranges-in-order, ranges-whole, data-last, one-range}
+use Rattle.bpg_format.proofs.RangeLaws.{ranges-in-order, ranges-whole, data-last, one-range, payload-part, last-part, parts-length, part-length, used-count}
 use Rattle.bpg_format.proofs.WritingRefusals.{write-refuses}
 use Rattle.bpg_format.proofs.Writing.{written-sound, written-full, record-written}
 use Rattle.bpg_format.proofs.CanonicalLaws.{same-picture, canonical-rules}
 use Rattle.bpg_format.proofs.Canonical.{equal-exactly, again, minimal}
 
 -- ---- 1
-
-refused-answer : (o : Outcome (List ℕ)) (out : List ℕ) → writtenAnswer o .status ≢ 0
-    → (writtenAnswer o ≡ refusedWritten (writtenAnswer o .status) (writtenAnswer o .offset)) × (writtenBuffer o out ≡ out)
-refused-answer (ok l) out n = absurd (n refl)
-refused-answer (error s o) out n = (refl, refl)
 
 refused-at-zero : (o : Outcome (List ℕ)) (out : List ℕ) → Refuses (λ s p. WritingStatus s × (p ≡ 0)) o → writtenAnswer o .status ≢ 0
     → (writtenAnswer o ≡ refusedWritten (writtenAnswer o .status) 0) × WritingStatus (writtenAnswer o .status) × (writtenBuffer o out ≡ out)
@@ -51,10 +47,25 @@ written-refusal : (r : Record) (source out : List ℕ) → writeFile r source ou
 unfolding writeFile writeBuffer
 written-refusal r source out n = refused-at-zero (writeOutcome (length out) r source) out (write-refuses (length out) r source) n
 
-canonical-refusal : (f out : List ℕ) → canonicalFile f out .status ≢ 0
-    → (canonicalFile f out ≡ refusedWritten (canonicalFile f out .status) (canonicalFile f out .offset)) × (canonicalBuffer f out ≡ out)
-unfolding canonicalFile canonicalBuffer
-canonical-refusal f out n = refused-answer (canonicalOutcome (length out) f) out n
+canonical-refused : (f out : List ℕ) → readFile f .status ≢ 0
+    → (canonicalFile f out ≡ refusedWritten (readFile f .status) (readFile f .offset)) × (canonicalBuffer f out ≡ out)
+unfolding canonicalFile canonicalBuffer canonicalOutcome readFile
+canonical-refused f out n = by (readContent f) n
+  where
+    sized : Outcome Content → Outcome (List ℕ)
+    sized o = o >>= λ c. guard (leb (length (canonicalBytes c)) (length out)) 20 0 >>= λ _. ok (canonicalBytes c)
+
+    by : (o : Outcome Content) → answerOf o .status ≢ 0
+        → (writtenAnswer (sized o) ≡ refusedWritten (answerOf o .status) (answerOf o .offset)) × (writtenBuffer (sized o) out ≡ out)
+    by (ok c) n = absurd (n refl)
+    by (error s o) n = (refl, refl)
+
+canonical-small : (f out : List ℕ) (a : Accepted f) → length out < length (canonicalBytes (a .0))
+    → (canonicalFile f out ≡ refusedWritten 20 0) × (canonicalBuffer f out ≡ out)
+unfolding canonicalFile canonicalBuffer canonicalOutcome
+canonical-small f out a h =
+    let e : canonicalOutcome (length out) f ≡ error 20 0 = rw (a .2, reads (a .0) (a .1), lt-leb _ _ h) in
+    (ap writtenAnswer e, ap (λ (o : Outcome (List ℕ)). writtenBuffer o out) e)
 
 -- canonicalizing answers the reading's refusal, 20, or the canonical form
 canonical-cases : (f out : List ℕ) (P : Outcome (List ℕ) → Type 0) → ((s o : ℕ) → readContent f ≡ error s o → P (error s o)) → P (error 20 0)
@@ -70,20 +81,11 @@ canonical-cases f out P refused small fits = by (readContent f) refl
     by (ok c) e = sized c (leb (length (canonicalBytes c)) (length out))
     by (error s o) e = refused s o e
 
-canonical-number : (f out : List ℕ) → canonicalFile f out .status ≢ 0 → canonicalFile f out .status ≢ 20
-    → (canonicalFile f out .status ≡ readFile f .status) × (canonicalFile f out .offset ≡ readFile f .offset) × ReadingStatus (canonicalFile f out .status)
-unfolding canonicalFile readFile
-canonical-number f out =
-    canonical-cases f out
-    (λ o. writtenAnswer o .status ≢ 0 → writtenAnswer o .status ≢ 20
-    → (writtenAnswer o .status ≡ readFile f .status) × (writtenAnswer o .offset ≡ readFile f .offset) × ReadingStatus (writtenAnswer o .status))
-    (λ s o e n m. rw e (refl, refl, content-refuses f s o e)) (λ n m. absurd (m refl)) (λ c n m. absurd (n refl))
-
-canonical-small : (f out : List ℕ) → canonicalFile f out .status ≡ 20 → canonicalFile f out .offset ≡ 0
+canonical-number : (f out : List ℕ) → canonicalFile f out .status ≢ 0 → CanonicalizingStatus (canonicalFile f out .status)
 unfolding canonicalFile
-canonical-small f out =
-    canonical-cases f out (λ o. writtenAnswer o .status ≡ 20 → writtenAnswer o .offset ≡ 0)
-    (λ s o e k. absurd (omega (arith, k, content-refuses f s o e .1))) (λ _. refl) (λ c _. refl)
+canonical-number f out =
+    canonical-cases f out (λ o. writtenAnswer o .status ≢ 0 → CanonicalizingStatus (writtenAnswer o .status))
+    (λ s o e n. inl (content-refuses f s o e)) (λ n. inr refl) (λ c n. absurd (n refl))
 
 no-payload : (f : List ℕ) (k : ℕ) → readFile f .«record» .«entry_count» ≤ k → payloadOf f k ≡ []
 unfolding payloadOf entryOf
@@ -103,23 +105,41 @@ refusals =
       reading = refusal;
       reading-number = statuses;
       writing = written-refusal;
-      canonicalizing = canonical-refusal;
-      canonicalizing-number = canonical-number;
+      canonicalizing = canonical-refused;
       canonicalizing-small = canonical-small;
+      canonicalizing-number = canonical-number;
       past-last = no-payload;
       refused-parts = no-parts;
     }
 
 -- ---- 2
 
+the-record : (c : Content) → Rules c → readFile (fileOf c) .«record» ≡ recordOf c
+the-record c r = ap (λ (x : Answer). x .«record») (answer c r)
+
+the-content : (c : Content) → Rules c → contentOf (readFile (fileOf c) .«record») (fileOf c) ≡ c
+the-content c r = ap (λ (x : Record). contentOf x (fileOf c)) (the-record c r) ∙ content-record c r
+
+the-payload : (c : Content) → Rules c → (k : ℕ) → payloadOf (fileOf c) k ≡ getD (c .extensions) k noExtension .payload
+unfolding payloadOf entryOf contentOf
+the-payload c r k =
+    let es = usedEntries (readFile (fileOf c) .«record») in
+    ap (λ (e : Extension). e .payload) (sym (List·getD-map (extensionOf (fileOf c)) es k zeroEntry) ∙ ap (λ (x : Content). getD (x .extensions) k noExtension) (the-content c r))
+
+the-data : (c : Content) → Rules c → dataOf (fileOf c) ≡ c .hevcData
+unfolding dataOf contentOf
+the-data c r = ap (λ (x : Content). x .hevcData) (the-content c r)
+
 pub reading : Reading
 reading =
     record {
       accepted = accepted-status;
       only-accepted = status-accepted;
-      the-record = λ c r. ap (λ (x : Answer). x .«record») (answer c r);
-      the-content = content-record;
+      the-answer = answer;
+      the-content = the-content;
       one-content = content-unique;
+      the-payload = the-payload;
+      the-data = the-data;
     }
 
 -- what a success says of its answer and of the buffer
@@ -148,38 +168,71 @@ written-bytes r source out w =
     let s = success (writeOutcome (length out) r source) (fileOf (contentOf r source)) out (written-full (length out) r source w) in
     (s .1, s .2, s .3)
 
-read-back : (r : Record) (source : List ℕ) (capacity : ℕ) → Writable capacity r source
-    → (readFile (fileOf (contentOf r source)) .status ≡ 0)
-    × (contentOf (readFile (fileOf (contentOf r source)) .«record») (fileOf (contentOf r source)) ≡ contentOf r source)
-read-back r source capacity w =
-    let c = contentOf r source in
-    let a = answer c (w .rules) in
-    (ap (λ (x : Answer). x .status) a, ap (λ (x : Answer). contentOf (x .«record») (fileOf c)) a ∙ content-record c (w .rules))
+read-back : (r : Record) (source out : List ℕ) → Writable (length out) r source
+    → let file = take (writeFile r source out .count) (writeBuffer r source out) in
+    (readFile file ≡ answerOf (ok (contentOf r source))) × (contentOf (readFile file .«record») file ≡ contentOf r source)
+read-back r source out w = rw (written-bytes r source out w .1) (answer (contentOf r source) (w .rules), the-content (contentOf r source) (w .rules))
 
-same-file : (c : Content) → Rules c → (out : List ℕ) → length (fileOf c) ≤ length out
-    → (writeFile (recordOf c) (fileOf c) out .status ≡ 0)
-    × (take (writeFile (recordOf c) (fileOf c) out .count) (writeBuffer (recordOf c) (fileOf c) out) ≡ fileOf c)
+same-file : (f out : List ℕ) → Accepted f → length f ≤ length out
+    → let written = writeFile (readFile f .«record») f out in
+    (written .status ≡ 0) × (written .count ≡ length f) × (take (written .count) (writeBuffer (readFile f .«record») f out) ≡ f)
 unfolding writeFile writeBuffer
-same-file c r out h = let s = success (writeOutcome (length out) (recordOf c) (fileOf c)) (fileOf c) out (record-written c r (length out) h) in (s .0, s .2)
+same-file f out a h =
+    let c = a .0 in
+    let n : length (fileOf c) ≤ length out = subst (λ (g : List ℕ). length g ≤ length out) (a .2) h in
+    let s = success (writeOutcome (length out) (recordOf c) (fileOf c)) (fileOf c) out (record-written c (a .1) (length out) n) in
+    rw (a .2, the-record c (a .1)) (s .0, s .1, s .2)
 
 pub writing : Writing
 writing = record { exactly = exactly; bytes = written-bytes; read-back = read-back; same-file = same-file }
 
-pub ranges : Ranges
-ranges =
+-- the parts of a record of which these two facts are known
+module _ (f : List ℕ) (order : InOrder (parts f) (length f)) (used : length (usedEntries (readFile f .«record»)) ≡ readFile f .«record» .«entry_count») where
+  abbrev es : List Entry
+  es = usedEntries (readFile f .«record»)
+
+  abbrev d : Range
+  d = readFile f .«record» .«data»
+
+  handed-payload : (k : ℕ) → k < readFile f .«record» .«entry_count» → (entryOf f k .payload ≡ part f k) × (length (payloadOf f k) ≡ part f k .length)
+  unfolding payloadOf entryOf
+  handed-payload k h =
+      let p = payload-part es d k (omega (arith, used)) in
+      let n = order .within k (omega (arith, used, parts-length es d)) in
+      (p, ap (λ (r : Range). length (bytesIn f r)) p ∙ part-length f (part f k) n)
+
+  handed-data : (length (parts f) ≡ readFile f .«record» .«entry_count» + 1) × (d ≡ part f (readFile f .«record» .«entry_count»))
+      × (length (dataOf f) ≡ part f (readFile f .«record» .«entry_count») .length)
+  unfolding dataOf
+  handed-data =
+      let p = subst (λ (n : ℕ). d ≡ part f n) used (last-part es d) in
+      let n = order .within (readFile f .«record» .«entry_count») (omega (arith, used, parts-length es d)) in
+      (parts-length es d ∙ ap (λ (n : ℕ). n + 1) used, p, ap (λ (r : Range). length (bytesIn f r)) p ∙ part-length f (part f (readFile f .«record» .«entry_count»)) n)
+
+ranges-of : (c : Content) → Rules c → Ranges (fileOf c)
+ranges-of c r =
+    let f = fileOf c in
+    let e = sym (the-record c r) in
+    let order : InOrder (parts f) (length f) = subst (λ (x : Record). InOrder (rangesOf x) (length f)) e (ranges-in-order c r) in
+    let used = subst (λ (x : Record). length (usedEntries x) ≡ x .«entry_count») e (used-count c) in
     record {
-      in-order = ranges-in-order;
-      no-shared-byte = λ c r offset i j. one-range (rangesOf (recordOf c)) (length (fileOf c)) offset i j (ranges-in-order c r);
-      whole = ranges-whole;
-      data-last = data-last;
+      in-order = order;
+      no-shared-byte = λ offset i j. one-range (parts f) (length f) offset i j order;
+      payloads = handed-payload f order used;
+      last = handed-data f order used;
+      whole = subst (λ (x : Record). joined 0 (rangesOf x) f ≡ f) e (ranges-whole c r);
+      data-last = subst (λ (x : Record). rangeEnd (x .«data») ≡ length f) e (data-last c r);
     }
+
+pub ranges : RangesApart
+ranges f a = subst Ranges (sym (a .2)) (ranges-of (a .0) (a .1))
 
 -- ---- 3
 
 record Done (f out : List ℕ) (c : Content) : Type 0 where
   status : canonicalFile f out .status ≡ 0
-  count-is : count f out ≡ length (canonicalBytes c)
-  bytes-are : bytes f out ≡ canonicalBytes c
+  count-is : canonicalFile f out .count ≡ length (canonicalBytes c)
+  bytes-are : bytes (canonicalFile f out) (canonicalBuffer f out) ≡ canonicalBytes c
 
 -- canonicalizing an accepted file into a buffer that holds the canonical form
 done : (f out : List ℕ) (a : Accepted f) → length (canonicalBytes (a .0)) ≤ length out → Done f out (a .0)
@@ -204,7 +257,11 @@ same-pictures f g a b = (
 )
 
 module _ (f out : List ℕ) (a : Accepted f) (x : Done f out (a .0)) where
-  equal : (g out2 : List ℕ) (b : Accepted g) → Done g out2 (b .0) → ((count f out ≡ count g out2) × (bytes f out ≡ bytes g out2)) ↔ SamePicture f g
+  abbrev written : List ℕ
+  written = bytes (canonicalFile f out) (canonicalBuffer f out)
+
+  equal : (g out2 : List ℕ) (b : Accepted g) → Done g out2 (b .0)
+      → ((canonicalFile f out .count ≡ canonicalFile g out2 .count) × (written ≡ bytes (canonicalFile g out2) (canonicalBuffer g out2))) ↔ SamePicture f g
   equal g out2 b y =
       let eq = equal-exactly (a .0) (b .0) (a .1) (b .1) in
       let pictures = same-pictures f g a b in (
@@ -212,21 +269,22 @@ module _ (f out : List ℕ) (a : Accepted f) (x : Done f out (a .0)) where
         λ p. let same = eq .1 (pictures .0 p) in (x .count-is ∙ ap length same ∙ sym (y .count-is), x .bytes-are ∙ same ∙ sym (y .bytes-are)),
       )
 
-  written : bytes f out ≡ fileOf (canonicalContent (a .0))
+  is-form : written ≡ fileOf (canonicalContent (a .0))
   unfolding canonicalBytes
-  written = x .bytes-are
+  is-form = x .bytes-are
 
-  abbrev form : Accepted (bytes f out)
-  form = (canonicalContent (a .0), canonical-rules (a .0) (a .1), written)
+  abbrev form : Accepted written
+  form = (canonicalContent (a .0), canonical-rules (a .0) (a .1), is-form)
 
-  once-more : (out3 : List ℕ) → length (bytes f out) ≤ length out3
-      → (canonicalFile (bytes f out) out3 .status ≡ 0) × (count (bytes f out) out3 ≡ count f out) × (bytes (bytes f out) out3 ≡ bytes f out)
+  once-more : (out3 : List ℕ) → length written ≤ length out3
+      → let w3 = canonicalFile written out3 in
+      (w3 .status ≡ 0) × (w3 .count ≡ canonicalFile f out .count) × (bytes w3 (canonicalBuffer written out3) ≡ written)
   once-more out3 h =
-      let e : canonicalBytes (canonicalContent (a .0)) ≡ bytes f out = again (a .0) ∙ sym (x .bytes-are) in
-      let z = done (bytes f out) out3 form (rw e h) in
+      let e : canonicalBytes (canonicalContent (a .0)) ≡ written = again (a .0) ∙ sym (x .bytes-are) in
+      let z = done written out3 form (rw e h) in
       (z .status, z .count-is ∙ ap length (again (a .0)) ∙ sym (x .count-is), z .bytes-are ∙ e)
 
-  least : (h : List ℕ) → Accepted h → SamePicture h f → count f out ≤ length h
+  least : (h : List ℕ) → Accepted h → SamePicture h f → canonicalFile f out .count ≤ length h
   least h b p = rw (x .count-is, b .2) (minimal (a .0) (b .0) (b .1) (same-pictures h f b a .0 p))
 
 pub one-form-per-picture : OneFormPerPicture
@@ -239,7 +297,7 @@ one-form-per-picture f g out1 out2 a b h k =
       equal = equal f out1 a x g out2 b y;
       form = λ e r i. x .bytes-are ∙ ap canonicalBytes (content-unique (a .0) e (a .1) r (sym (a .2) ∙ i));
       is-accepted = form f out1 a x;
-      same = same-pictures (bytes f out1) f (form f out1 a x) a .1 (same-picture (a .0));
+      same = same-pictures (written f out1 a x) f (form f out1 a x) a .1 (same-picture (a .0));
       again = once-more f out1 a x;
       minimal = least f out1 a x;
     }

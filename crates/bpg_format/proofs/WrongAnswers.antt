@@ -12,7 +12,7 @@ use Rattle.bpg_format.specs.Records.{readFile}
 use Rattle.bpg_format.specs.Parts.{entryOf}
 use Rattle.bpg_format.specs.Write.{writeFile, writeBuffer}
 use Rattle.bpg_format.specs.Pictures.{canonicalFile, canonicalBuffer}
-use Rattle.bpg_format.specs.Requirements.{count, bytes}
+use Rattle.bpg_format.specs.Requirements.{bytes}
 use Rattle.bpg_format.specs.Examples.{fileA, fileB, fileC, fileD, readingA}
 use Rattle.bpg_format.proofs.Examples.{answers}
 
@@ -55,10 +55,10 @@ canonicalizes-nothing : ¬ ((f out : List ℕ) → canonicalFile f out .status �
 canonicalizes-nothing is = absurd (omega (arith, differ 0 _ _ (sym (answers .b-bytes) ∙ is fileB (replicate 16 0) (answers .b-canonical))))
 
 -- one that copies its input: B against A
-copies-input : ¬ ((f out : List ℕ) → canonicalFile f out .status ≡ 0 → bytes f out ≡ f)
+copies-input : ¬ ((f out : List ℕ) → canonicalFile f out .status ≡ 0 → bytes (canonicalFile f out) (canonicalBuffer f out) ≡ f)
 copies-input is = absurd (omega (arith, differ 9 _ _ (sym (answers .b-written) ∙ is fileB (replicate 16 0) (answers .b-canonical))))
 
 -- one with a count of its own for all files
-one-count : (n : ℕ) → ¬ ((f out : List ℕ) → canonicalFile f out .status ≡ 0 → count f out ≡ n)
+one-count : (n : ℕ) → ¬ ((f out : List ℕ) → canonicalFile f out .status ≡ 0 → canonicalFile f out .count ≡ n)
 one-count n is =
     absurd (omega (arith, answers .a-count, answers .c-count, is fileA (replicate 16 0) (answers .a-canonical), is fileC (replicate 22 0) (answers .c-canonical)))

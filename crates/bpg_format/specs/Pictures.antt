@@ -2,6 +2,7 @@
 use mathlib.Core.Bool.{Bool, false, not}
 use mathlib.Core.List.{List, [], _∷_, _++_, map}
 use mathlib.Core.Path.{_≡_}
+use mathlib.Core.Logic.{_⊎_}
 use Prim.Native.Nat.{ℕ}
 use lib.Dec.{leb}
 use lib.ListN.{length}
@@ -15,7 +16,7 @@ use Rattle.bpg_format.specs.Content.{isEmpty, Extension, Loop, Content}
 use Rattle.bpg_format.specs.Syntax.{fileOf}
 use Rattle.bpg_format.specs.Rules.{isLoop, Rules}
 use Rattle.bpg_format.specs.FileCodec.{loopNumbers}
-use Rattle.bpg_format.specs.Read.{readContent}
+use Rattle.bpg_format.specs.Read.{readContent, ReadingStatus}
 use Rattle.bpg_format.specs.Write.{writtenAnswer, writtenBuffer}
 
 -- ---- the picture: the content without the four encoding choices
@@ -239,3 +240,7 @@ canonicalFile f out = writtenAnswer (canonicalOutcome (length out) f)
 
 unfoldable pub canonicalBuffer : (f out : List ℕ) → List ℕ
 canonicalBuffer f out = writtenBuffer (canonicalOutcome (length out) f) out
+
+-- the refusal numbers of canonicalizing: the reader's, and 20
+abbrev pub CanonicalizingStatus : ℕ → Type 0
+CanonicalizingStatus s = ReadingStatus s ⊎ (s ≡ 20)

@@ -3,19 +3,22 @@
 use mathlib.Core.Path.{_≡_}
 use mathlib.Core.List.{List, []}
 use mathlib.Core.Logic.{_↔_, _≢_}
-use Prim.Native.Nat.{ℕ, _≤_, _<_}
+use Prim.Native.Nat.{ℕ, _+_, _≤_, _<_}
 use lib.ListN.{length, take, drop, getD}
+use Rattle.bpg_codec.specs.Outcome.{ok}
 use Rattle.bpg_codec.specs.Lawful.{All, Byte}
+use Rattle.bpg_format.specs.declared.record.Range.{Range}
 use Rattle.bpg_format.specs.declared.record.Record.{Record}
+use Rattle.bpg_format.specs.declared.answer.Written.{Written}
 use Rattle.bpg_format.specs.Zero.{range, refusedReading, refusedWritten}
-use Rattle.bpg_format.specs.Content.{Content}
+use Rattle.bpg_format.specs.Content.{Extension, Content}
 use Rattle.bpg_format.specs.Syntax.{fileOf}
 use Rattle.bpg_format.specs.Rules.{Rules, Accepted}
 use Rattle.bpg_format.specs.Read.{ReadingStatus}
-use Rattle.bpg_format.specs.Records.{recordOf, contentOf, readFile}
-use Rattle.bpg_format.specs.Parts.{payloadOf, dataOf, rangesOf, rangeEnd, InOrder, joined, Inside}
+use Rattle.bpg_format.specs.Records.{contentOf, answerOf, readFile}
+use Rattle.bpg_format.specs.Parts.{entryOf, payloadOf, dataOf, rangesOf, rangeEnd, InOrder, joined, Inside}
 use Rattle.bpg_format.specs.Write.{writeFile, writeBuffer, WritingStatus, Typed, Writable}
-use Rattle.bpg_format.specs.Pictures.{canonicalBytes, SamePicture, canonicalFile, canonicalBuffer}
+use Rattle.bpg_format.specs.Pictures.{canonicalBytes, SamePicture, canonicalFile, canonicalBuffer, CanonicalizingStatus}
 
 -- 1. "Every call takes every input. A bad file or record is refused with the number and place in document 01, any record returned is then
 -- all zero, and lent room keeps its old contents; an index past the last entry gives an empty part."
@@ -29,15 +32,21 @@ pub record Refusals : Type 0 where
   -- "lent room keeps its old contents"
   pub writing : (r : Record) (source out : List ℕ) → writeFile r source out .status ≢ 0
       → (writeFile r source out ≡ refusedWritten (writeFile r source out .status) 0) × WritingStatus (writeFile r source out .status) × (writeBuffer r source out ≡ out)
-  pub canonicalizing : (f out : List ℕ) → canonicalFile f out .status ≢ 0
-      → (canonicalFile f out ≡ refusedWritten (canonicalFile f out .status) (canonicalFile f out .offset)) × (canonicalBuffer f out ≡ out)
-  -- the reader's numbers, with the reader's places; or 20, at 0
-  pub canonicalizing-number : (f out : List ℕ) → canonicalFile f out .status ≢ 0 → canonicalFile f out .status ≢ 20
-      → (canonicalFile f out .status ≡ readFile f .status) × (canonicalFile f out .offset ≡ readFile f .offset) × ReadingStatus (canonicalFile f out .status)
-  pub canonicalizing-small : (f out : List ℕ) → canonicalFile f out .status ≡ 20 → canonicalFile f out .offset ≡ 0
+  -- canonicalizing refuses what reading refuses, with reading's number and place; and an accepted file, with 20 at 0, where the buffer does not
+  -- hold its canonical form
+  pub canonicalizing : (f out : List ℕ) → readFile f .status ≢ 0
+      → (canonicalFile f out ≡ refusedWritten (readFile f .status) (readFile f .offset)) × (canonicalBuffer f out ≡ out)
+  pub canonicalizing-small : (f out : List ℕ) (a : Accepted f) → length out < length (canonicalBytes (a .0))
+      → (canonicalFile f out ≡ refusedWritten 20 0) × (canonicalBuffer f out ≡ out)
+  -- it gives no other refusal
+  pub canonicalizing-number : (f out : List ℕ) → canonicalFile f out .status ≢ 0 → CanonicalizingStatus (canonicalFile f out .status)
   -- "an index past the last entry gives an empty part"; so does a refused file
   pub past-last : (f : List ℕ) (k : ℕ) → readFile f .«record» .«entry_count» ≤ k → payloadOf f k ≡ []
   pub refused-parts : (f : List ℕ) (k : ℕ) → readFile f .status ≢ 0 → (payloadOf f k ≡ []) × (dataOf f ≡ [])
+
+-- what stands for an entry past the last: its payload is empty
+abbrev pub noExtension : Extension
+noExtension = record { tag = 0; payload = [] }
 
 -- 2. "A file is read as a record exactly when it meets BPG 0.9.5 as document 01 condenses it, shortest integers included; the record is the
 -- one that syntax gives."
@@ -45,10 +54,14 @@ pub record Reading : Type 0 where
   pub accepted : (f : List ℕ) → Accepted f → readFile f .status ≡ 0
   -- a file is a list of bytes
   pub only-accepted : (f : List ℕ) → All Byte f → readFile f .status ≡ 0 → Accepted f
-  -- the record of the one content whose file it is; over the file it gives that content
-  pub the-record : (c : Content) → Rules c → readFile (fileOf c) .«record» ≡ recordOf c
-  pub the-content : (c : Content) → Rules c → contentOf (recordOf c) (fileOf c) ≡ c
+  -- the whole answer, for the one content whose file it is: status and offset 0, the coded size, the record
+  pub the-answer : (c : Content) → Rules c → readFile (fileOf c) ≡ answerOf (ok c)
+  -- that record over the file gives that content
+  pub the-content : (c : Content) → Rules c → contentOf (readFile (fileOf c) .«record») (fileOf c) ≡ c
   pub one-content : (c d : Content) → Rules c → Rules d → fileOf c ≡ fileOf d → c ≡ d
+  -- the parts that calls hand out are the content's
+  pub the-payload : (c : Content) → Rules c → (k : ℕ) → payloadOf (fileOf c) k ≡ getD (c .extensions) k noExtension .payload
+  pub the-data : (c : Content) → Rules c → dataOf (fileOf c) ≡ c .hevcData
 
 -- "Each accepted record is written as the file the syntax gives, and read back with the same content."
 pub record Writing : Type 0 where
@@ -58,51 +71,64 @@ pub record Writing : Type 0 where
       → (writeFile r source out .count ≡ length (fileOf (contentOf r source)))
       × (take (writeFile r source out .count) (writeBuffer r source out) ≡ fileOf (contentOf r source))
       × (drop (writeFile r source out .count) (writeBuffer r source out) ≡ drop (writeFile r source out .count) out)
-  pub read-back : (r : Record) (source : List ℕ) → (capacity : ℕ) → Writable capacity r source
-      → (readFile (fileOf (contentOf r source)) .status ≡ 0)
-      × (contentOf (readFile (fileOf (contentOf r source)) .«record») (fileOf (contentOf r source)) ≡ contentOf r source)
+  -- what stands in the buffer then is read with status 0, as a record of the same content
+  pub read-back : (r : Record) (source out : List ℕ) → Writable (length out) r source
+      → let file = take (writeFile r source out .count) (writeBuffer r source out) in
+      (readFile file ≡ answerOf (ok (contentOf r source))) × (contentOf (readFile file .«record») file ≡ contentOf r source)
   -- the record of an accepted file is written over that file, as that file
-  pub same-file : (c : Content) → Rules c → (out : List ℕ) → length (fileOf c) ≤ length out
-      → (writeFile (recordOf c) (fileOf c) out .status ≡ 0)
-      × (take (writeFile (recordOf c) (fileOf c) out .count) (writeBuffer (recordOf c) (fileOf c) out) ≡ fileOf c)
+  pub same-file : (f out : List ℕ) → Accepted f → length f ≤ length out
+      → let written = writeFile (readFile f .«record») f out in
+      (written .status ≡ 0) × (written .count ≡ length f) × (take (written .count) (writeBuffer (readFile f .«record») f out) ≡ f)
 
 -- "The payload and data parts lie in the file in order, and no two share a byte."
-pub record Ranges : Type 0 where
-  pub in-order : (c : Content) → Rules c → InOrder (rangesOf (recordOf c)) (length (fileOf c))
-  pub no-shared-byte : (c : Content) → Rules c → (offset i j : ℕ) → i < length (rangesOf (recordOf c)) → j < length (rangesOf (recordOf c))
-      → Inside offset (getD (rangesOf (recordOf c)) i (range 0 0)) → Inside offset (getD (rangesOf (recordOf c)) j (range 0 0)) → i ≡ j
-  -- with the parts between them they make up the file, of which the data is the end
-  pub whole : (c : Content) → Rules c → joined 0 (rangesOf (recordOf c)) (fileOf c) ≡ fileOf c
-  pub data-last : (c : Content) → Rules c → rangeEnd (recordOf c .«data») ≡ length (fileOf c)
+module _ (f : List ℕ) where
+  -- the payloads' ranges and the data's, of the record that reading answers
+  abbrev pub parts : List Range
+  parts = rangesOf (readFile f .«record»)
+
+  abbrev pub part : ℕ → Range
+  part i = getD parts i (range 0 0)
+
+  pub record Ranges : Type 0 where
+    pub in-order : InOrder parts (length f)
+    pub no-shared-byte : (offset i j : ℕ) → i < length parts → j < length parts → Inside offset (part i) → Inside offset (part j) → i ≡ j
+    -- `payload` hands out part k and `data` the last: each begins at its part's start (the calls' contracts) and has its length
+    pub payloads : (k : ℕ) → k < readFile f .«record» .«entry_count» → (entryOf f k .payload ≡ part k) × (length (payloadOf f k) ≡ part k .length)
+    pub last : (length parts ≡ readFile f .«record» .«entry_count» + 1)
+        × (readFile f .«record» .«data» ≡ part (readFile f .«record» .«entry_count»)) × (length (dataOf f) ≡ part (readFile f .«record» .«entry_count») .length)
+    -- with what lies between them they make up the file, of which the data is the end
+    pub whole : joined 0 parts f ≡ f
+    pub data-last : rangeEnd (readFile f .«record» .«data») ≡ length f
+
+abbrev pub RangesApart : Type 0
+RangesApart = (f : List ℕ) → Accepted f → Ranges f
 
 -- 3. "Take any two accepted files, and tidy each into room that holds its tidy form, whatever bytes that room had before."
-module _ (f out : List ℕ) where
-  abbrev pub count : ℕ
-  count = canonicalFile f out .count
 
-  -- the bytes that were written
-  abbrev pub bytes : List ℕ
-  bytes = take count (canonicalBuffer f out)
+-- the bytes that were written, of an answer and the buffer at exit
+abbrev pub bytes : Written → (after : List ℕ) → List ℕ
+bytes w after = take (w .count) after
 
--- `out1` and `out2` are the two buffers (the demand's room), of any length and content
-pub record Canonicalized (f g out1 out2 : List ℕ) : Type 0 where
+-- `w1` and `w2` are the answers of the two calls, `after1` and `after2` the buffers at exit (the demand's room)
+pub record Canonicalized (f g : List ℕ) (w1 w2 : Written) (after1 after2 : List ℕ) : Type 0 where
   -- "Both tidyings succeed."
-  pub first : canonicalFile f out1 .status ≡ 0
-  pub second : canonicalFile g out2 .status ≡ 0
+  pub first : w1 .status ≡ 0
+  pub second : w2 .status ≡ 0
   -- "Their counts and the bytes they write are equal exactly when the two files show the same picture, by document 01's definition of that."
-  pub equal : ((count f out1 ≡ count g out2) × (bytes f out1 ≡ bytes g out2)) ↔ SamePicture f g
+  pub equal : ((w1 .count ≡ w2 .count) × (bytes w1 after1 ≡ bytes w2 after2)) ↔ SamePicture f g
   -- "The bytes written for a file are its tidy form: an accepted file of the same picture."
-  pub form : (c : Content) → Rules c → f ≡ fileOf c → bytes f out1 ≡ canonicalBytes c
-  pub is-accepted : Accepted (bytes f out1)
-  pub same : SamePicture (bytes f out1) f
+  pub form : (c : Content) → Rules c → f ≡ fileOf c → bytes w1 after1 ≡ canonicalBytes c
+  pub is-accepted : Accepted (bytes w1 after1)
+  pub same : SamePicture (bytes w1 after1) f
   -- "Tidied again, into room that holds it, it gives the same count and the same bytes."
-  pub again : (out3 : List ℕ) → length (bytes f out1) ≤ length out3
-      → (canonicalFile (bytes f out1) out3 .status ≡ 0) × (count (bytes f out1) out3 ≡ count f out1) × (bytes (bytes f out1) out3 ≡ bytes f out1)
+  pub again : (out3 : List ℕ) → length (bytes w1 after1) ≤ length out3
+      → let w3 = canonicalFile (bytes w1 after1) out3 in
+      (w3 .status ≡ 0) × (w3 .count ≡ w1 .count) × (bytes w3 (canonicalBuffer (bytes w1 after1) out3) ≡ bytes w1 after1)
   -- "Every accepted file of that picture has at least as many bytes as the count that tidying answered."
-  pub minimal : (h : List ℕ) → Accepted h → SamePicture h f → count f out1 ≤ length h
+  pub minimal : (h : List ℕ) → Accepted h → SamePicture h f → w1 .count ≤ length h
 
 -- "The premise is only that the files are accepted and that each room holds the tidy form written into it."
 abbrev pub OneFormPerPicture : Type 0
 OneFormPerPicture =
     (f g out1 out2 : List ℕ) (a : Accepted f) (b : Accepted g) → length (canonicalBytes (a .0)) ≤ length out1 → length (canonicalBytes (b .0)) ≤ length out2
-    → Canonicalized f g out1 out2
+    → Canonicalized f g (canonicalFile f out1) (canonicalFile g out2) (canonicalBuffer f out1) (canonicalBuffer g out2)
