@@ -1,0 +1,2 @@
+-- Laws of the functions on bytes.
+pub mod CompareLaws

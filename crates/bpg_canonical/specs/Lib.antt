@@ -1,0 +1,2 @@
+-- What canonicalizing two files answers.
+pub mod Comparisons
