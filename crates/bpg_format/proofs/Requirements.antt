@@ -83,7 +83,7 @@ canonical-small : (f out : List ℕ) → canonicalFile f out .status ≡ 20 → 
 unfolding canonicalFile
 canonical-small f out =
     canonical-cases f out (λ o. writtenAnswer o .status ≡ 20 → writtenAnswer o .offset ≡ 0)
-    (λ s o e k. absurd (omega (arith, k, content-refuses f s o e .1))) (λ _. refl) (λ c _. refl)
+    (λ s o e k. absurd (subst ReadingStatus k (content-refuses f s o e))) (λ _. refl) (λ c _. refl)
 
 no-payload : (f : List ℕ) (k : ℕ) → readFile f .«record» .«entry_count» ≤ k → payloadOf f k ≡ []
 unfolding payloadOf entryOf
@@ -130,7 +130,7 @@ success o l out e = rw e (refl, refl, take-append-seam l (drop (length l) out), 
 
 written-outcome : (o : Outcome (List ℕ)) → Refuses (λ s p. WritingStatus s × (p ≡ 0)) o → writtenAnswer o .status ≡ 0 → (l : List ℕ) × (o ≡ ok l)
 written-outcome (ok l) h e = (l, refl)
-written-outcome (error s o) h e = absurd (omega (arith, h s o refl .0 .least))
+written-outcome (error s o) h e = absurd (subst WritingStatus e (h s o refl .0))
 
 exactly : (r : Record) (source out : List ℕ) → Typed r → All Byte source → (writeFile r source out .status ≡ 0) ↔ Writable (length out) r source
 unfolding writeFile

@@ -1,12 +1,12 @@
 -- The picture of a content, and the canonical form (document 01, "Record and picture": picture, tidy form).
 use mathlib.Core.Bool.{Bool, false, not}
-use mathlib.Core.List.{List, [], _∷_, _++_, map}
+use mathlib.Core.List.{List, [], _++_, map}
 use mathlib.Core.Path.{_≡_}
 use Prim.Native.Nat.{ℕ}
 use lib.Dec.{leb}
 use lib.ListN.{length}
 use Rattle.bpg_codec.specs.Select.{select}
-use Rattle.bpg_codec.specs.Outcome.{Outcome, ok, error, _>>=_, guard}
+use Rattle.bpg_codec.specs.Outcome.{Outcome, ok, _>>=_, guard}
 use Rattle.bpg_codec.specs.Bits.{allZero}
 use Rattle.bpg_numbers.specs.Ue7.{ue7Bytes}
 use Rattle.bpg_format.specs.declared.record.Header.{Header}
@@ -14,7 +14,6 @@ use Rattle.bpg_format.specs.declared.answer.Written.{Written}
 use Rattle.bpg_format.specs.Content.{isEmpty, Extension, Loop, Content}
 use Rattle.bpg_format.specs.Syntax.{fileOf}
 use Rattle.bpg_format.specs.Rules.{isLoop, Rules}
-use Rattle.bpg_format.specs.FileCodec.{loopNumbers}
 use Rattle.bpg_format.specs.Read.{readContent}
 use Rattle.bpg_format.specs.Write.{writtenAnswer, writtenBuffer}
 
@@ -190,28 +189,6 @@ canonicalContent c = withChoices (pictureOf c) (canonicalChoices (pictureOf c))
 -- the canonical form of a content: the file of its picture with these choices
 unfoldable pub canonicalBytes : Content → List ℕ
 canonicalBytes c = fileOf (canonicalContent c)
-
--- ---- the choices that a content has made
-
-abbrev pub dummyFrom : Outcome (ℕ × (ℕ × (ℕ × List ℕ))) → List ℕ
-dummyFrom (ok x) = x .1 .1 .1
-dummyFrom (error s o) = []
-
-unfoldable pub dummyOf : List Extension → List ℕ
-dummyOf [] = []
-dummyOf (e ∷ es) = select (isLoop e) (dummyFrom (loopNumbers .decode 0 0 (e .payload))) (dummyOf es)
-
-unfoldable pub choicesOf : Content → Choices
-choicesOf c =
-    record {
-      explicitLength = c .explicitLength;
-      extensionPresent = c .flags .extensionPresent;
-      alphaSps = c .alphaHeader .«sps_extension_present_flag»;
-      alphaRange = c .alphaHeader .«sps_range_extension_flag»;
-      colorSps = c .colorHeader .«sps_extension_present_flag»;
-      colorRange = c .colorHeader .«sps_range_extension_flag»;
-      dummy = dummyOf (c .extensions);
-    }
 
 -- ---- pictures of accepted files
 
