@@ -12,21 +12,20 @@ use lib.ListN.{length, take, getD, length-append, length-replicate, length-take,
 use lib.Pow.{pow-pos, pow-mono, high, low as low′}
 use lib.Seq.{getD-take, length-take-le, take-at, drop-at}
 use borrow.Author.Tests.{lt-ltb, le-ltb, le-leb}
-use Rattle.bpg_codec.specs.Outcome.{Outcome, ok, error, _>>=_}
-use Rattle.bpg_codec.specs.Lawful.{Lawful}
+use Rattle.bpg_codec.specs.Outcome.{Outcome, ok, error, _>>=_, Decoded, decoded}
+use Rattle.bpg_codec.specs.Lawful.{Found, Lawful}
 use Rattle.bpg_codec.specs.Bits.{Bit, bits, zeros, unpack}
 use Rattle.bpg_codec.proofs.Select.{select-true, select-false}
 use Rattle.bpg_codec.proofs.Outcome.{error-not-ok, ok-injective, unbind, unguard}
 use Rattle.bpg_codec.proofs.Lists.{either-way}
 use Rattle.bpg_codec.proofs.Tokens.{all-bits}
 use Rattle.bpg_codec.proofs.Bits.{length-bits, number-bits, number-small, bits-number, bits-append, bits-mod, bits-zero, unpack-take, length-unpack}
-use Rattle.bpg_codec.proofs.Parts.{Found}
-use Rattle.bpg_bits.specs.BitNumbers.{regionBits, unsigned, prefixDecode, prefixZeros, expGolombBits, expGolomb}
+use Rattle.bpg_bits.specs.BitNumbers.{regionBits, unsignedDecode, unsigned, prefixDecode, prefixZeros, expGolombBits, expGolombDecode, expGolomb}
 
 -- ---- u(n)
 
 module _ (n : ℕ) where
-  unsigned-decodes : (v : ℕ) → v < 2 ^ n → (i p : ℕ) (r : List Bool) → unsigned n .decode i p (bits n v ++ r) ≡ ok (v, p + length (bits n v), r)
+  unsigned-decodes : (v : ℕ) → v < 2 ^ n → (i p : ℕ) (r : List Bool) → unsignedDecode n i p (bits n v ++ r) ≡ ok (decoded v (p + length (bits n v)) r)
   unsigned-decodes v h i p r =
       let k : n ≤ length (bits n v ++ r) = omega (arith, length-append (bits n v) r, length-bits n v) in
       rw (le-leb _ _ k, take-at (bits n v) r n (length-bits n v), drop-at (bits n v) r n (length-bits n v), number-bits n v h, length-bits)
@@ -36,7 +35,7 @@ module _ (n : ℕ) where
       record {
         tokens = λ v h. all-bits (bits n v);
         decodes = unsigned-decodes;
-        encodes = λ i p l h v q r e.
+        encodes = λ i p l h x e.
             unguard (leb n (length l)) 15 i _ e λ t e1.
             let k = length-take-le n l (leb→le n (length l) t) in
             subst (Found (unsigned n) p l) (ok-injective e1)
@@ -57,7 +56,7 @@ module _ (i z p : ℕ) where
   unfolding prefixDecode
   prefix-end = refl
 
-  pub prefix-one : (l : List Bool) → prefixDecode i z p (true ∷ l) ≡ ok (z, p + 1, l)
+  pub prefix-one : (l : List Bool) → prefixDecode i z p (true ∷ l) ≡ ok (decoded z (p + 1) l)
   unfolding prefixDecode
   prefix-one l = refl
 
@@ -69,17 +68,17 @@ module _ (i z p : ℕ) where
   unfolding prefixDecode
   prefix-long l h = rw (le-ltb _ _ h)
 
-prefix-decodes : (m z i p : ℕ) (r : List Bool) → z + m ≤ 31 → prefixDecode i z p (zeros m ++ (true ∷ r)) ≡ ok (z + m, p + suc m, r)
+prefix-decodes : (m z i p : ℕ) (r : List Bool) → z + m ≤ 31 → prefixDecode i z p (zeros m ++ (true ∷ r)) ≡ ok (decoded (z + m) (p + suc m) r)
 prefix-decodes zero z i p r h = prefix-one i z p r ∙ rw add-zero
 prefix-decodes (suc m) z i p r h =
     let a : z + 1 + m ≡ z + suc m = omega arith in
     let b : p + 1 + suc m ≡ p + suc (suc m) = omega arith in
     prefix-zero i z p (zeros m ++ (true ∷ r)) (omega arith) ∙ prefix-decodes m (z + 1) i (p + 1) r (omega arith) ∙ rw (a, b)
 
-abbrev Prefix : (z p : ℕ) → List Bool → ℕ × ℕ × List Bool → Type 0
-Prefix z p l x = (z ≤ x .0) × (x .0 ≤ 31) × (l ≡ zeros (x .0 - z) ++ (true ∷ x .2)) × (x .1 ≡ p + suc (x .0 - z))
+abbrev Prefix : (z p : ℕ) → List Bool → Decoded Bool ℕ → Type 0
+Prefix z p l x = (z ≤ x .value) × (x .value ≤ 31) × (l ≡ zeros (x .value - z) ++ (true ∷ x .rest)) × (x .next ≡ p + suc (x .value - z))
 
-prefix-encodes : (l : List Bool) (z i p : ℕ) → z ≤ 31 → (x : ℕ × ℕ × List Bool) → prefixDecode i z p l ≡ ok x → Prefix z p l x
+prefix-encodes : (l : List Bool) (z i p : ℕ) → z ≤ 31 → (x : Decoded Bool ℕ) → prefixDecode i z p l ≡ ok x → Prefix z p l x
 prefix-encodes [] z i p h x e = absurd (error-not-ok (sym (prefix-end i z p) ∙ e))
 prefix-encodes (true ∷ l) z i p h x e =
     let z0 : z - z ≡ 0 = omega arith in
@@ -90,7 +89,7 @@ prefix-encodes (false ∷ l) z i p h x e =
   where
     more : Prefix (z + 1) (p + 1) l x → Prefix z p (false ∷ l) x
     more ih =
-        let s : x .0 - z ≡ suc (x .0 - (z + 1)) = omega arith in
+        let s : x .value - z ≡ suc (x .value - (z + 1)) = omega arith in
         (omega arith, ih .1, rw s (ap (λ (y : List Bool). false ∷ y) (ih .2)), rw s (omega (arith, ih .3)))
 
 -- ---- z, the highest power of two in v + 1
@@ -142,7 +141,7 @@ expGolomb-one-field v h =
     let rem : (v + 1) % 2 ^ prefixZeros v ≡ v + 1 - 2 ^ prefixZeros v = subst (λ (n : ℕ). n % 2 ^ prefixZeros v ≡ v + 1 - 2 ^ prefixZeros v) s (low′ 1 z (omega (arith, t .high, t .low))) in
     expGolomb-bits v h ∙ sym (rw (n, bits-append z (suc z) (v + 1), q, bits-zero z) (ap (λ (l : List Bool). zeros z ++ l) (leading-one z (v + 1) low one rem)))
 
-expGolomb-decodes : (v : ℕ) → v < 2 ^ 32 - 1 → (i p : ℕ) (r : List Bool) → expGolomb .decode i p (expGolombBits v ++ r) ≡ ok (v, p + length (expGolombBits v), r)
+expGolomb-decodes : (v : ℕ) → v < 2 ^ 32 - 1 → (i p : ℕ) (r : List Bool) → expGolombDecode i p (expGolombBits v ++ r) ≡ ok (decoded v (p + length (expGolombBits v)) r)
 expGolomb-decodes v h i p r =
     let z = prefixZeros v in
     let t = top v h .0 in
@@ -150,27 +149,27 @@ expGolomb-decodes v h i p r =
     let s : 2 ^ prefixZeros v - 1 + (v + 1 - 2 ^ prefixZeros v) ≡ v = omega (arith, t .low, pow-pos (prefixZeros v)) in
     let n : p + suc (prefixZeros v) + length (bits (prefixZeros v) (v + 1 - 2 ^ prefixZeros v)) ≡ p + (2 * prefixZeros v + 1) = rw length-bits (omega arith) in
     rw (expGolomb-size v h, expGolomb-bits v h, append-assoc, prefix-decodes z 0 i p (bits z x ++ r) (omega (arith, t .most)), zero-add)
-    (ap (λ (o : Outcome (ℕ × ℕ × List Bool)). o >>= λ y. ok (2 ^ z - 1 + y .0, y .1, y .2)) (unsigned-decodes z x (omega (arith, t .high)) i (p + suc z) r)
+    (ap (λ (o : Outcome (Decoded Bool ℕ)). o >>= λ y. ok (decoded (2 ^ z - 1 + y .value) (y .next) (y .rest))) (unsigned-decodes z x (omega (arith, t .high)) i (p + suc z) r)
     ∙ rw (s, n))
 
 -- what the prefix and the suffix make
 value-top : (z x : ℕ) → z ≤ 31 → x < 2 ^ z → Top (2 ^ z - 1 + x) z
 value-top z x h k = record { most = h; low = omega (arith, pow-pos z); high = omega (arith, pow-pos z) }
 
-expGolomb-found : (i p : ℕ) (l : List Bool) (x y : ℕ × ℕ × List Bool) → prefixDecode i 0 p l ≡ ok x → unsigned (x .0) .decode i (x .1) (x .2) ≡ ok y
-    → Found expGolomb p l (2 ^ (x .0) - 1 + y .0, y .1, y .2)
+expGolomb-found : (i p : ℕ) (l : List Bool) (x y : Decoded Bool ℕ) → prefixDecode i 0 p l ≡ ok x → unsignedDecode (x .value) i (x .next) (x .rest) ≡ ok y
+    → Found expGolomb p l (decoded (2 ^ (x .value) - 1 + y .value) (y .next) (y .rest))
 expGolomb-found i p l x y e f =
-    let z = x .0 in
-    let v : ℕ = 2 ^ (x .0) - 1 + y .0 in
+    let z = x .value in
+    let v : ℕ = 2 ^ (x .value) - 1 + y .value in
     let s = prefix-encodes l 0 i p (omega arith) x e in
-    let t = unsigned-lawful z .encodes i (x .1) (x .2) (all-bits (x .2)) (y .0) (y .1) (y .2) f in
-    let valid : 2 ^ (x .0) - 1 + y .0 < 2 ^ 32 - 1 = omega (arith, t .0, s .1, pow-mono {i = z} {j = 31} (s .1), pow-pos z) in
-    let same : prefixZeros (2 ^ (x .0) - 1 + y .0) ≡ x .0 = top-unique v _ z (top v valid .0) (value-top z (y .0) (s .1) (t .0)) in
-    let low : 2 ^ (x .0) - 1 + y .0 + 1 - 2 ^ (x .0) ≡ y .0 = omega (arith, pow-pos z) in
-    let z0 : x .0 - 0 ≡ x .0 = omega arith in (
+    let t = unsigned-lawful z .encodes i (x .next) (x .rest) (all-bits (x .rest)) y f in
+    let valid : 2 ^ (x .value) - 1 + y .value < 2 ^ 32 - 1 = omega (arith, t .0, s .1, pow-mono {i = z} {j = 31} (s .1), pow-pos z) in
+    let same : prefixZeros (2 ^ (x .value) - 1 + y .value) ≡ x .value = top-unique v _ z (top v valid .0) (value-top z (y .value) (s .1) (t .0)) in
+    let low : 2 ^ (x .value) - 1 + y .value + 1 - 2 ^ (x .value) ≡ y .value = omega (arith, pow-pos z) in
+    let z0 : x .value - 0 ≡ x .value = omega arith in (
       valid,
       s .2 ∙ rw (z0, expGolomb-bits v valid, same, low, append-assoc, ← t .1),
-      rw (expGolomb-size v valid, same) (omega (arith, t .2, s .3, length-bits (x .0) (y .0))),
+      rw (expGolomb-size v valid, same) (omega (arith, t .2, s .3, length-bits (x .value) (y .value))),
     )
 
 pub expGolomb-lawful : Lawful Bit expGolomb
@@ -178,8 +177,8 @@ expGolomb-lawful =
     record {
       tokens = λ v h. all-bits (expGolombBits v);
       decodes = expGolomb-decodes;
-      encodes = λ i p l h v q r e.
+      encodes = λ i p l h z e.
           unbind (prefixDecode i 0 p l) _ e λ x e1 k1.
-          unbind (unsigned (x .0) .decode i (x .1) (x .2)) _ k1 λ y e2 k2.
+          unbind (unsignedDecode (x .value) i (x .next) (x .rest)) _ k1 λ y e2 k2.
           subst (Found expGolomb p l) (ok-injective k2) (expGolomb-found i p l x y e1 e2);
     }

@@ -9,7 +9,7 @@ use native.Mathlib.Omega.{arith}
 use lib.Dec.{eqb}
 use lib.ListN.{length, take, getD, length-take}
 use lib.Seq.{take-suc}
-use Rattle.bpg_codec.specs.Parts.{same}
+use Rattle.bpg_codec.specs.Lists.{same}
 
 same-last : (l m : List ℕ) (x y : ℕ) → length l ≡ length m → same (l ++ (x ∷ [])) (m ++ (y ∷ [])) ≡ same l m && eqb x y
 same-last [] [] x y e = and-true (eqb x y)

@@ -1,6 +1,6 @@
 // Comparing bytes.
 ghost use mathlib.Core.Path.{_≡_};
-ghost use Rattle.bpg_codec.specs.Parts.{same};
+ghost use Rattle.bpg_codec.specs.Lists.{same};
 
 // Whether two slices hold the same bytes. The loop looks at every byte, so that it is compiled into wide comparisons.
 pub fn equal(a: &[u8], b: &[u8]) -> bool

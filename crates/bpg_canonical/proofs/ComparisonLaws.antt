@@ -9,8 +9,8 @@ use lib.Dec.{T, eqb}
 use lib.ListN.{length, take, drop, length-append, length-take}
 use borrow.Author.Tests.{ne-eqb}
 use Rattle.bpg_codec.specs.Outcome.{Outcome, ok, error}
-use Rattle.bpg_codec.specs.Parts.{same}
-use Rattle.bpg_codec.proofs.Parts.{same-equal, same-refl}
+use Rattle.bpg_codec.specs.Lists.{same}
+use Rattle.bpg_codec.proofs.Lists.{same-equal, same-refl}
 use Rattle.bpg_format.specs.declared.answer.Written.{Written}
 use Rattle.bpg_format.specs.Write.{writtenAnswer, writtenBuffer}
 use Rattle.bpg_format.specs.Pictures.{SamePicture, canonicalOutcome, canonicalFile, canonicalBuffer}

@@ -6,7 +6,7 @@ use mathlib.Core.Logic.{_↔_}
 use Prim.Native.Nat.{ℕ, _≤_}
 use lib.Dec.{eqb}
 use lib.ListN.{length}
-use Rattle.bpg_codec.specs.Parts.{same}
+use Rattle.bpg_codec.specs.Lists.{same}
 use Rattle.bpg_format.specs.declared.answer.Written.{Written}
 use Rattle.bpg_format.specs.Rules.{Accepted}
 use Rattle.bpg_format.specs.Pictures.{canonicalBytes, SamePicture, canonicalFile, canonicalBuffer}

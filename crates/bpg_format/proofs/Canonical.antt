@@ -1,19 +1,20 @@
 -- The canonical form pins the picture down: equal bytes exactly for equal pictures, idempotent, and minimal. A content is determined by its
--- picture and its choices, and changing choices keeps the picture. Assumes nothing.
+-- picture and its choices, and changing choices keeps the picture.
 use mathlib.Core.Path.{_≡_, refl, sym, ap, ap₂, _∙_, subst}
-use mathlib.Core.Bool.{true, false}
-use mathlib.Core.List.{List, [], _∷_, map}
+use mathlib.Core.Bool.{true}
+use mathlib.Core.List.{List, [], _∷_, _++_, map, append-assoc}
 use mathlib.Core.Logic.{_↔_}
 use Prim.Native.Nat.{ℕ, _≤_}
-use lib.ListN.{length}
+use lib.ListN.{length, drop}
+use lib.Seq.{drop-append-seam}
+use Rattle.bpg_codec.specs.Select.{select}
 use Rattle.bpg_codec.specs.Lawful.{All}
 use Rattle.bpg_codec.proofs.Select.{select-true, select-false}
 use Rattle.bpg_format.specs.Content.{Extension, Loop, Content}
 use Rattle.bpg_format.specs.Syntax.{fileOf}
 use Rattle.bpg_format.specs.Rules.{LoopPayload, isLoop, ExtensionRules, hasLoop, OneLoop, Rules}
-use Rattle.bpg_format.specs.FileCodec.{loopNumbers}
-use Rattle.bpg_format.specs.Pictures.{Picture, pictureEntry, pictureOf, entryWith, withChoices, canonicalChoices, canonicalContent, canonicalBytes, dummyFrom, dummyOf, choicesOf}
-use Rattle.bpg_format.proofs.RuleLaws.{bool-apart, by-tag, loop-decodes}
+use Rattle.bpg_format.specs.Pictures.{Picture, Choices, pictureEntry, pictureOf, entryWith, withChoices, canonicalChoices, canonicalContent, canonicalBytes, loopBytes}
+use Rattle.bpg_format.proofs.RuleLaws.{bool-apart, by-tag}
 use Rattle.bpg_format.proofs.Reading.{content-unique}
 use Rattle.bpg_format.proofs.CanonicalLaws.{same-picture, shorter, canonical-rules}
 
@@ -40,36 +41,51 @@ minimal c d s e = subst (λ (x : Content). length (fileOf x) ≤ length (fileOf 
 
 -- ---- picture and choices
 
-dummy-in : (l : List ℕ) (p : Loop) (d : List ℕ) → LoopPayload l p d → dummyFrom (loopNumbers .decode 0 0 l) ≡ d
-dummy-in l p d r = ap dummyFrom (loop-decodes l p d r)
+-- what follows the loop numbers p in a payload
+abbrev pub dummyIn : Loop → List ℕ → List ℕ
+dummyIn p l = drop (length (loopBytes p [])) l
 
-dummy-head : (e : Extension) (es : List Extension) → isLoop e ≡ true → dummyOf (e ∷ es) ≡ dummyFrom (loopNumbers .decode 0 0 (e .payload))
-unfolding dummyOf
-dummy-head e es l = select-true _ _ l
+-- the choices that a content has made
+unfoldable pub dummyOf : Loop → List Extension → List ℕ
+dummyOf p [] = []
+dummyOf p (e ∷ es) = select (isLoop e) (dummyIn p (e .payload)) (dummyOf p es)
 
-dummy-tail : (e : Extension) (es : List Extension) → isLoop e ≡ false → dummyOf (e ∷ es) ≡ dummyOf es
-unfolding dummyOf
-dummy-tail e es l = select-false _ _ l
+unfoldable pub choicesOf : Content → Choices
+choicesOf c =
+    record {
+      explicitLength = c .explicitLength;
+      extensionPresent = c .flags .extensionPresent;
+      alphaSps = c .alphaHeader .«sps_extension_present_flag»;
+      alphaRange = c .alphaHeader .«sps_range_extension_flag»;
+      colorSps = c .colorHeader .«sps_extension_present_flag»;
+      colorRange = c .colorHeader .«sps_range_extension_flag»;
+      dummy = dummyOf (c .loop) (c .extensions);
+    }
 
-payload-back : (p : Loop) (d : List ℕ) (e : Extension) → ExtensionRules p e → (isLoop e ≡ true → d ≡ dummyFrom (loopNumbers .decode 0 0 (e .payload)))
+dummy-in : (l : List ℕ) (p : Loop) (d : List ℕ) → LoopPayload l p d → dummyIn p l ≡ d
+dummy-in l p d r =
+    let e : l ≡ loopBytes p [] ++ d = r .is ∙ simp append-assoc in
+    rw e (drop-append-seam (loopBytes p []) d)
+
+payload-back : (p : Loop) (d : List ℕ) (e : Extension) → ExtensionRules p e → (isLoop e ≡ true → d ≡ dummyIn p (e .payload))
     → entryWith p d (pictureEntry e) .payload ≡ e .payload
 payload-back p d e r f =
     by-tag (isLoop e)
-    (λ l. let x = r .loop l in
-    select-true _ _ l ∙ ap (λ (y : List ℕ). Rattle.bpg_format.specs.Pictures.loopBytes p y) (f l ∙ dummy-in (e .payload) p (x .0) (x .1)) ∙ sym (x .1 .is))
+    (λ l. let x = r .loop l in select-true _ _ l ∙ ap (loopBytes p) (f l ∙ dummy-in (e .payload) p (x .0) (x .1)) ∙ sym (x .1 .is))
     (λ l. select-false _ _ l ∙ select-false _ _ l)
 
-entries-back : (p : Loop) (d : List ℕ) (es : List Extension) → All (ExtensionRules p) es → OneLoop es → (hasLoop es ≡ true → d ≡ dummyOf es)
+entries-back : (p : Loop) (d : List ℕ) (es : List Extension) → All (ExtensionRules p) es → OneLoop es → (hasLoop es ≡ true → d ≡ dummyOf p es)
     → map (entryWith p d) (map pictureEntry es) ≡ es
+unfolding dummyOf
 entries-back p d [] r o f = refl
 entries-back p d (e ∷ es) r o f =
     ap₂ _∷_
-    (ap {B = Extension} (λ (l : List ℕ). record { tag = e .tag; payload = l }) (payload-back p d e (r .0) (λ l. f (rw l) ∙ dummy-head e es l)))
-    (entries-back p d es (r .1) (o .1) (λ h. by-tag (isLoop e) (λ l. bool-apart h (o .0 l)) (λ l. f (rw l h) ∙ dummy-tail e es l)))
+    (ap {B = Extension} (λ (l : List ℕ). record { tag = e .tag; payload = l }) (payload-back p d e (r .0) (λ l. f (rw l) ∙ select-true _ _ l)))
+    (entries-back p d es (r .1) (o .1) (λ h. by-tag (isLoop e) (λ l. bool-apart h (o .0 l)) (λ l. f (rw l h) ∙ select-false _ _ l)))
 
 rebuilt : (c : Content) → Rules c → withChoices (pictureOf c) (choicesOf c) ≡ c
 unfolding pictureOf withChoices choicesOf
-rebuilt c r = rw (entries-back (c .loop) (dummyOf (c .extensions)) (c .extensions) (r .entries) (r .one-loop) (λ _. refl))
+rebuilt c r = rw (entries-back (c .loop) (dummyOf (c .loop) (c .extensions)) (c .extensions) (r .entries) (r .one-loop) (λ _. refl))
 
 pub determined : (c d : Content) → Rules c → Rules d → pictureOf c ≡ pictureOf d → choicesOf c ≡ choicesOf d → c ≡ d
 determined c d r s e f = sym (rebuilt c r) ∙ ap₂ withChoices e f ∙ rebuilt d s

@@ -15,7 +15,8 @@ use Rattle.bpg_codec.specs.Parts.{sequence, mapped, guarded, sized, item}
 use Rattle.bpg_codec.specs.Regions.{thenRest, itemThenRest, guardedRegion, derived, packed}
 use Rattle.bpg_codec.proofs.Bits.{bit-of-bit, bit-of-number}
 use Rattle.bpg_codec.proofs.Parts.{sequence-lawful, mapped-lawful, guarded-lawful, sized-lawful, item-lawful, absent-lawful, select-lawful, fixed-lawful}
-use Rattle.bpg_codec.proofs.Regions.{thenRest-lawful, itemThenRest-lawful, mappedExact-lawful, derived-lawful, guardedRegion-lawful, rest-lawful, verbatim-lawful, repeated-lawful}
+use Rattle.bpg_codec.proofs.Regions.{thenRest-lawful, itemThenRest-lawful, mappedExact-lawful, derived-lawful, guardedRegion-lawful, rest-lawful}
+use Rattle.bpg_codec.proofs.Regions.{verbatim-lawful, repeated-lawful}
 use Rattle.bpg_codec.proofs.Packed.{packed-lawful}
 use Rattle.bpg_numbers.specs.Ue7.{notZero}
 use Rattle.bpg_numbers.proofs.Ue7Laws.{ue7-lawful, size-positive}
@@ -25,7 +26,11 @@ use Rattle.bpg_format.specs.declared.record.Header.{Header}
 use Rattle.bpg_format.specs.Zero.{zeroHeader}
 use Rattle.bpg_format.specs.Content.{Flags, Extension, Loop, Content, hasAlpha, bitDepth}
 use Rattle.bpg_format.specs.Rules.{hasLoop}
-use Rattle.bpg_format.specs.FileCodec.{flags, dimension, period, loopNumbers, payload, extension, seenAfter, extensions, block, loopOf, oneBit, optional, sizeFields, pcmFields, spsFields, noPcm, noSps, fieldSequence, headerFields, noForbiddenBit, hevcAllowed, header, alphaHeader, body, countsBody, Parts, parts, withLoop, contentFrom, partsOf, file}
+use Rattle.bpg_format.specs.Tests.{countsBody, noForbiddenBit, hevcAllowed}
+use Rattle.bpg_format.specs.Read.{loopOf}
+use Rattle.bpg_format.specs.FileCodec.{flags, dimension, period, loopNumbers, payload, extension, seenAfter, extensions, block, oneBit, optional}
+use Rattle.bpg_format.specs.FileCodec.{sizeFields, pcmFields, spsFields, noPcm, noSps, fieldSequence, headerFields, header, alphaHeader, body, judgedBody}
+use Rattle.bpg_format.specs.FileCodec.{Parts, parts, withLoop, contentFrom, partsOf, file}
 use Rattle.bpg_format.proofs.FlagLaws.{flags-lawful}
 
 -- ---- the extension block
@@ -115,20 +120,24 @@ pub body-lawful : (f : Flags) → ExactLawful Byte (body f)
 unfolding body
 body-lawful f = thenRest-lawful (alphaHeader-lawful f) λ _. thenRest-lawful (header-lawful (bitDepth f)) λ _. rest-lawful Byte
 
+judged-lawful : (f : Flags) (n : ℕ) (es : List Extension) → ExactLawful Byte (judgedBody f n es)
+unfolding judgedBody
+judged-lawful f n es =
+    guardedRegion-lawful (λ _. not (f .animation) || hasLoop es) 14 (λ _ _. 5)
+    (guardedRegion-lawful (λ l. countsBody n (length l)) 10 atItem (body-lawful f))
+
 -- ---- the file
 
 parts-lawful : ExactLawful Byte parts
 unfolding parts
 parts-lawful =
-    guardedRegion-lawful (λ size. leb size maxFile) 1 (λ _ _. 0)
+    guardedRegion-lawful (λ l. leb (length l) maxFile) 1 (λ _ _. 0)
     (thenRest-lawful flags-lawful λ f.
     thenRest-lawful dimension-lawful λ _.
     thenRest-lawful dimension-lawful λ _.
     itemThenRest-lawful (ue7-lawful 32) λ n.
     thenRest-lawful (block-lawful (f .extensionPresent)) λ es.
-    guardedRegion-lawful (λ _. not (f .animation) || hasLoop es) 14 (λ _ _. 5)
-    (guardedRegion-lawful (countsBody n) 10 atItem
-    (body-lawful f)))
+    judged-lawful f n es)
 
 -- the body is never empty: it has the colour header's length
 body-some : (f : Flags) (x : Header × (Header × List ℕ)) → 0 < length (body f .encode x)
@@ -152,7 +161,7 @@ content-parts : (c : Content) → withLoop .Valid (partsOf c) → contentFrom (p
 content-parts c v = rw (length-choice (c .explicitLength) _ (body-some (c .flags) (c .alphaHeader, (c .colorHeader, c .hevcData))))
 
 parts-content : (x : Parts × Loop) → withLoop .Valid x → partsOf (contentFrom x) ≡ x
-unfolding withLoop derived parts guardedRegion thenRest itemThenRest
+unfolding withLoop derived parts judgedBody guardedRegion thenRest itemThenRest
 parts-content x v =
     ap {B = Parts × Loop} (λ (n : ℕ). ((x .0 .0, (x .0 .1 .0, (x .0 .1 .1 .0, (n, x .0 .1 .1 .1 .1)))), x .1))
     (choice-length (x .0 .1 .1 .1 .0) _ (v .0 .1 .1 .1 .1 .1 .1 .1 .0))

@@ -6,20 +6,21 @@ use Prim.Native.Nat.{ℕ, _+_, _-_, _*_, _/_, _%_, _≤_, _<_}
 use native.Mathlib.Omega.{arith}
 use lib.Dec.{leb, eqb, leb→le}
 use lib.ListN.{length, take, drop, getD, take-append-drop}
-use Rattle.bpg_codec.specs.Outcome.{Outcome, ok}
-use Rattle.bpg_codec.specs.Lawful.{All, Byte, Lawful}
+use Rattle.bpg_codec.specs.Outcome.{Outcome, ok, Decoded, decoded}
+use Rattle.bpg_codec.specs.Lawful.{All, Byte, Found, Lawful}
 use Rattle.bpg_codec.specs.Bits.{bit}
-use Rattle.bpg_codec.specs.Parts.{same}
+use Rattle.bpg_codec.specs.Lists.{same}
 use borrow.Author.Tests.{le-leb}
 use Rattle.bpg_codec.proofs.Select.{is-true, and-left}
 use Rattle.bpg_codec.proofs.Outcome.{ok-injective, unbind, unguard}
-use Rattle.bpg_codec.proofs.Lists.{drop-next}
+use Rattle.bpg_codec.proofs.Lists.{drop-next, same-equal}
 use Rattle.bpg_codec.proofs.Tokens.{byte-at}
 use Rattle.bpg_codec.proofs.Bits.{bit-small, bit-of-bit, bit-of-number}
-use Rattle.bpg_codec.proofs.Parts.{Found, same-equal}
 use Rattle.bpg_format.specs.Content.{Flags}
 use Rattle.bpg_format.specs.Syntax.{magic, byte4, byte5}
-use Rattle.bpg_format.specs.FileCodec.{flag, flagsOf, colorSpaceAllowed, FlagsRules, readFlags, flags}
+use Rattle.bpg_format.specs.Tests.{colorSpaceAllowed}
+use Rattle.bpg_format.specs.Read.{flag, flagsOf, readFlags}
+use Rattle.bpg_format.specs.FileCodec.{FlagsRules, flags}
 
 -- a flag, from the number that stands above and below it
 flag-is : (x : Bool) (n : ℕ) → n ≡ bit x → eqb n 1 ≡ x
@@ -93,7 +94,7 @@ byte5-back b c h =
 
 -- ---- the laws
 
-flags-decodes : (f : Flags) → FlagsRules f → (i p : ℕ) (r : List ℕ) → flags .decode i p (flags .encode f ++ r) ≡ ok (f, p + length (flags .encode f), r)
+flags-decodes : (f : Flags) → FlagsRules f → (i p : ℕ) (r : List ℕ) → flags .decode i p (flags .encode f ++ r) ≡ ok (decoded f (p + length (flags .encode f)) r)
 unfolding flags readFlags
 flags-decodes f v i p r =
     let six : leb 6 (length (flags .encode f ++ r)) ≡ true = le-leb 6 (length (flags .encode f ++ r)) (omega arith) in
@@ -105,7 +106,7 @@ flags-decodes f v i p r =
       is-true (leb (byte4 f % 16) 6) (w .bit-depth),
       is-true (colorSpaceAllowed (flagsOf (byte4 f) (byte5 f))) (w .color-space),
     )
-    (ap {B = Outcome (Flags × ℕ × List ℕ)} (λ (g : Flags). ok (g, p + 6, r)) e)
+    (ap {B = Outcome (Decoded ℕ Flags)} (λ (g : Flags). ok (decoded g (p + 6) r)) e)
 
 -- six bytes and what follows them
 six-bytes : (l : List ℕ) → 6 ≤ length l → take 4 l ≡ magic → l ≡ magic ++ (getD l 4 0 ∷ getD l 5 0 ∷ drop 6 l)
@@ -123,7 +124,7 @@ read-flags l f e =
     unguard (colorSpaceAllowed (flagsOf (getD l 4 0) (getD l 5 0))) 6 5 _ e4 λ t5 e5.
     (leb→le 6 (length l) t1, sym (same-equal magic (take 4 l) t2), record { pixel-format = t3; bit-depth = t4; color-space = t5 }, ok-injective e5)
 
-flags-found : (p : ℕ) (l : List ℕ) → All Byte l → (f : Flags) → readFlags l ≡ ok f → Found flags p l (f, p + 6, drop 6 l)
+flags-found : (p : ℕ) (l : List ℕ) → All Byte l → (f : Flags) → readFlags l ≡ ok f → Found flags p l (decoded f (p + 6) (drop 6 l))
 unfolding flags
 flags-found p l h f e =
     let r = read-flags l f e in
@@ -138,7 +139,7 @@ flags-lawful =
     record {
       tokens = λ f v. (omega arith, (omega arith, (omega arith, (omega arith, (byte4-small f v, (byte5-small f v, tt))))));
       decodes = flags-decodes;
-      encodes = λ i p l h f q r e.
+      encodes = λ i p l h x e.
           unbind (readFlags l) _ e λ g e1 k1.
           subst (Found flags p l) (ok-injective k1) (flags-found p l h g e1);
     }

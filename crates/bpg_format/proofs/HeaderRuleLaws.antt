@@ -19,7 +19,8 @@ use Rattle.bpg_codec.proofs.Packed.{zeros-allZero}
 use Rattle.bpg_format.specs.declared.record.Header.{Header}
 use Rattle.bpg_format.specs.Syntax.{headerBits}
 use Rattle.bpg_format.specs.Rules.{Coded, NoPcm, NoSpsExtension, FieldRules, ForbiddenBits, PcmRules, HevcRules, HeaderRules}
-use Rattle.bpg_format.specs.FileCodec.{oneBit, optional, sizeFields, PcmFields, pcmFields, spsFields, noPcm, noSps, fieldSequence, pcmOf, headerFields, noForbiddenBit, pcmAllowed, hevcAllowed, header}
+use Rattle.bpg_format.specs.Tests.{noForbiddenBit, pcmAllowed, hevcAllowed}
+use Rattle.bpg_format.specs.FileCodec.{oneBit, optional, sizeFields, PcmFields, pcmFields, spsFields, noPcm, noSps, fieldSequence, pcmOf, headerFields, header}
 use Rattle.bpg_format.proofs.SyntaxLaws.{fields-encode}
 
 -- ---- tests

@@ -1,9 +1,8 @@
 -- A file is read as a content exactly when it is the syntax's file of that content and the content keeps the rules. Assumes nothing.
-use mathlib.Core.Path.{_≡_, refl, sym, ap, _∙_}
+use mathlib.Core.Path.{_≡_, refl, sym, ap, _∙_, subst}
 use mathlib.Core.List.{List}
 use mathlib.Core.Logic.{_≢_}
 use Prim.Native.Nat.{ℕ}
-use native.Mathlib.Omega.{arith}
 use Rattle.bpg_codec.specs.Outcome.{Outcome, ok, error}
 use Rattle.bpg_codec.specs.Lawful.{All, Byte}
 use Rattle.bpg_codec.proofs.Outcome.{ok-injective}
@@ -48,7 +47,7 @@ status-accepted f h e = by (readContent f) refl e
   where
     by : (o : Outcome Content) → readContent f ≡ o → answerOf o .status ≡ 0 → Accepted f
     by (ok c) k z = let r = read-is f h c k in (c, r .0, r .1)
-    by (error s o) k z = absurd (omega (arith, content-refuses f s o k .0))
+    by (error s o) k z = absurd (subst ReadingStatus z (content-refuses f s o k))
 
 -- a refusal gives the zero record, and sizes of 0
 pub refusal : (f : List ℕ) → readFile f .status ≢ 0 → readFile f ≡ refusedReading (readFile f .status) (readFile f .offset)

@@ -1,30 +1,36 @@
--- Reading refuses with no other number than document 01's for reading, 1 to 17. Assumes nothing.
-use mathlib.Core.Path.{_≡_, _∙_}
+-- Reading refuses with no other number than document 01's for reading.
+use mathlib.Core.Path.{_≡_, sym, _∙_}
 use mathlib.Core.Bool.{Bool, true, false, not, _&&_, _||_}
 use mathlib.Core.List.{List, []}
 use Prim.Native.Nat.{ℕ, _+_, _/_, _%_}
-use native.Mathlib.Omega.{arith}
 use lib.Dec.{leb, eqb}
 use lib.ListN.{length, take, drop, getD, replicate}
 use Rattle.bpg_codec.specs.Select.{select}
-use Rattle.bpg_codec.specs.Outcome.{error}
+use Rattle.bpg_codec.specs.Lists.{same}
+use Rattle.bpg_codec.specs.Outcome.{ok, error, decoded}
 use Rattle.bpg_codec.specs.Codec.{Codec, Exact, atItem, atOwn}
 use Rattle.bpg_codec.specs.Lawful.{Byte}
 use Rattle.bpg_codec.specs.Bits.{Bit}
-use Rattle.bpg_codec.specs.Parts.{sequence, same}
-use Rattle.bpg_codec.proofs.Refusals.{Refuses, refuses-ok, refuses-bind, refuses-guard, CodecRefuses, ExactRefuses, sequence-refuses, mapped-refuses, guarded-refuses, sized-refuses, item-refuses, select-refuses, absent-refuses, fixed-refuses, thenRest-refuses, itemThenRest-refuses, mappedExact-refuses, derived-refuses, guardedRegion-refuses, rest-refuses, verbatim-refuses, repeated-refuses, packed-refuses}
+use Rattle.bpg_codec.specs.Parts.{sequence}
+use Rattle.bpg_codec.proofs.Refusals.{Refuses, refuses-ok, refuses-bind, refuses-guard, CodecRefuses, ExactRefuses, sequence-refuses, mapped-refuses}
+use Rattle.bpg_codec.proofs.Refusals.{guarded-refuses, sized-refuses, item-refuses, select-refuses, absent-refuses, fixed-refuses, thenRest-refuses}
+use Rattle.bpg_codec.proofs.Refusals.{itemThenRest-refuses, mappedExact-refuses, derived-refuses, guardedRegion-refuses, rest-refuses, verbatim-refuses}
+use Rattle.bpg_codec.proofs.Refusals.{repeated-refuses, packed-refuses}
 use Rattle.bpg_numbers.specs.Ue7.{ue7, notZero}
 use Rattle.bpg_bits.specs.BitNumbers.{unsigned, expGolomb}
 use Rattle.bpg_numbers.proofs.Refusals.{ue7-refuses}
 use Rattle.bpg_bits.proofs.Refusals.{unsigned-refuses, expGolomb-refuses}
 use Rattle.bpg_format.specs.Limits.{maxEntries, maxFile}
 use Rattle.bpg_format.specs.Zero.{zeroHeader}
-use Rattle.bpg_format.specs.Content.{Flags, hasAlpha, bitDepth}
+use Rattle.bpg_format.specs.Content.{Flags, Extension, hasAlpha, bitDepth}
 use Rattle.bpg_format.specs.Syntax.{magic}
 use Rattle.bpg_format.specs.Rules.{hasLoop}
-use Rattle.bpg_format.specs.FileCodec.{flagsOf, colorSpaceAllowed, readFlags, flags, dimension, period, loopNumbers, payload, extension, seenAfter, extensions, block, loopOf, oneBit, optional, sizeFields, pcmFields, spsFields, noPcm, noSps, fieldSequence, headerFrom, fieldsOf, headerFields, noForbiddenBit, hevcAllowed, header, alphaHeader, body, countsBody, Parts, parts, withLoop, contentFrom, partsOf, file}
-use Rattle.bpg_format.specs.Read.{readContent, ReadingStatus}
-use Rattle.bpg_format.proofs.Chain.{content-chain}
+use Rattle.bpg_format.specs.Tests.{colorSpaceAllowed, countsBody, noForbiddenBit, hevcAllowed}
+use Rattle.bpg_format.specs.Read.{flagsOf, readFlags, readLoop, loopOf, readContent, ReadingStatus}
+use Rattle.bpg_format.specs.FileCodec.{flags, dimension, period, loopNumbers, payload, extension, seenAfter, extensions, block, oneBit, optional}
+use Rattle.bpg_format.specs.FileCodec.{sizeFields, pcmFields, spsFields, noPcm, noSps, fieldSequence, headerFrom, fieldsOf, headerFields, header}
+use Rattle.bpg_format.specs.FileCodec.{alphaHeader, body, judgedBody, Parts, parts, withLoop, contentFrom, partsOf, file}
+use Rattle.bpg_format.proofs.Chain.{loopOfNumbers, loop-chain, content-chain}
 
 abbrev pub Numbered : (status offset : ℕ) → Type 0
 Numbered s o = ReadingStatus s
@@ -36,44 +42,50 @@ abbrev E : {S A : Type 0} → Exact S A → Type 0
 E c = ExactRefuses Numbered c
 
 number : (n : ℕ) → C (ue7 n)
-number n = ue7-refuses Numbered (λ _. omega arith) (λ _. omega arith) (λ _. omega arith) n
+number n = ue7-refuses Numbered (λ _. tt) (λ _. tt) (λ _. tt) n
 
 -- ---- the extension block
 
 -- a tag 5 payload's own refusals are 2, 7, 8 and 12
-pub loop-refuses : (P : ℕ → ℕ → Type 0) → ((o : ℕ) → P 2 o) → ((o : ℕ) → P 7 o) → ((o : ℕ) → P 8 o) → ((o : ℕ) → P 12 o) → ExactRefuses P loopNumbers
-unfolding loopNumbers period
-loop-refuses P two seven eight twelve =
-    let n = ue7-refuses P two seven eight 16 in
-    let d = guarded-refuses P notZero 12 atOwn twelve n in
-    thenRest-refuses P n λ _. thenRest-refuses P d λ _. thenRest-refuses P d λ _. rest-refuses P Byte
+module _ (P : ℕ → ℕ → Type 0) (two : (o : ℕ) → P 2 o) (seven : (o : ℕ) → P 7 o) (eight : (o : ℕ) → P 8 o) (twelve : (o : ℕ) → P 12 o) where
+  numbers-refuse : ExactRefuses P loopNumbers
+  unfolding loopNumbers period
+  numbers-refuse =
+      let n = ue7-refuses P two seven eight 16 in
+      let d = guarded-refuses P notZero 12 atOwn twelve n in
+      thenRest-refuses P n λ _. thenRest-refuses P d λ _. thenRest-refuses P d λ _. rest-refuses P Byte
+
+  pub loop-refuses : (p : ℕ) (l : List ℕ) → Refuses P (readLoop p l)
+  loop-refuses p l s o e =
+      refuses-bind P (loopNumbers .decode p p l) (λ x. ok (loopOfNumbers x)) (numbers-refuse .refuses p p l) (λ x. refuses-ok P (loopOfNumbers x)) s o
+      (sym (loop-chain p p l) ∙ e)
 
 payload-refuses : (b : Bool) → E (payload b)
 unfolding payload select
-payload-refuses true = verbatim-refuses Numbered (loop-refuses Numbered (λ _. omega arith) (λ _. omega arith) (λ _. omega arith) (λ _. omega arith))
+payload-refuses true = verbatim-refuses Numbered (numbers-refuse Numbered (λ _. tt) (λ _. tt) (λ _. tt) (λ _. tt))
 payload-refuses false = rest-refuses Numbered Byte
 
 pub extension-refuses : (seen : Bool) → CodecRefuses Numbered (extension seen)
 unfolding extension
 extension-refuses seen =
     mapped-refuses Numbered _ _
-    (sequence-refuses Numbered (number 32) λ tag. sized-refuses Numbered 2 (λ _. omega arith) (number 32)
-    (guardedRegion-refuses Numbered (λ _. not (seen && eqb tag 5)) 13 atItem (λ _. omega arith) (payload-refuses (eqb tag 5))))
+    (sequence-refuses Numbered (number 32) λ tag. sized-refuses Numbered 2 (λ _. tt) (number 32)
+    (guardedRegion-refuses Numbered (λ _. not (seen && eqb tag 5)) 13 atItem (λ _. tt) (payload-refuses (eqb tag 5))))
 
 block-refuses : (present : Bool) → C (block present)
 unfolding block extensions
 block-refuses present =
     select-refuses Numbered present
-    (sized-refuses Numbered 2 (λ _. omega arith) (number 32) (repeated-refuses Numbered seenAfter 11 (λ _. omega arith) extension-refuses maxEntries false))
+    (sized-refuses Numbered 2 (λ _. tt) (number 32) (repeated-refuses Numbered seenAfter 11 (λ _. tt) extension-refuses maxEntries false))
     (absent-refuses Numbered [])
 
 -- ---- HEVC headers
 
 field : (n : ℕ) → C (unsigned n)
-field n = unsigned-refuses Numbered (λ _. omega arith) n
+field n = unsigned-refuses Numbered (λ _. tt) n
 
 code : C expGolomb
-code = expGolomb-refuses Numbered (λ _. omega arith)
+code = expGolomb-refuses Numbered (λ _. tt)
 
 one : C oneBit
 one = mapped-refuses Numbered _ _ (field 1)
@@ -91,14 +103,14 @@ fields-refuse =
     (next (next code λ _. next code λ _. next code λ _. next code λ _. code) λ _. next one λ _. next one λ pcm.
     next (opt pcm noPcm (next (field 4) λ _. next (field 4) λ _. next code λ _. next code λ _. one)) λ _.
     next one λ _. next one λ sps. next (opt sps noSps (next one λ _. field 7)) λ x.
-    opt (x .0) (replicate 9 false) (fixed-refuses Numbered Bit 9 15 atItem (λ _. omega arith)))
+    opt (x .0) (replicate 9 false) (fixed-refuses Numbered Bit 9 15 atItem (λ _. tt)))
 
 pub header-refuses : (depth : ℕ) → CodecRefuses Numbered (header depth)
 unfolding header
 header-refuses depth =
-    guarded-refuses Numbered (hevcAllowed depth) 16 atOwn (λ _. omega arith)
-    (guarded-refuses Numbered noForbiddenBit 17 atOwn (λ _. omega arith)
-    (item-refuses Numbered (sized-refuses Numbered 2 (λ _. omega arith) (number 32) (packed-refuses Numbered 15 (λ _. omega arith) fields-refuse))))
+    guarded-refuses Numbered (hevcAllowed depth) 16 atOwn (λ _. tt)
+    (guarded-refuses Numbered noForbiddenBit 17 atOwn (λ _. tt)
+    (item-refuses Numbered (sized-refuses Numbered 2 (λ _. tt) (number 32) (packed-refuses Numbered 15 (λ _. tt) fields-refuse))))
 
 body-refuses : (f : Flags) → E (body f)
 unfolding body alphaHeader
@@ -106,39 +118,44 @@ body-refuses f =
     thenRest-refuses Numbered (select-refuses Numbered (hasAlpha f) (header-refuses (bitDepth f)) (absent-refuses Numbered zeroHeader)) λ _.
     thenRest-refuses Numbered (header-refuses (bitDepth f)) λ _. rest-refuses Numbered Byte
 
+judged-refuses : (f : Flags) (n : ℕ) (es : List Extension) → E (judgedBody f n es)
+unfolding judgedBody
+judged-refuses f n es =
+    guardedRegion-refuses Numbered (λ _. not (f .animation) || hasLoop es) 14 (λ _ _. 5) (λ _. tt)
+    (guardedRegion-refuses Numbered (λ l. countsBody n (length l)) 10 atItem (λ _. tt) (body-refuses f))
+
 -- ---- the file
 
 pub read-flags : (l : List ℕ) → Refuses Numbered (readFlags l)
 unfolding readFlags
 read-flags l =
     let f = flagsOf (getD l 4 0) (getD l 5 0) in
-    refuses-guard Numbered (leb 6 (length l)) 2 0 _ (omega arith)
-    (refuses-guard Numbered (same magic (take 4 l)) 3 0 _ (omega arith)
-    (refuses-guard Numbered (leb (getD l 4 0 / 32) 5) 4 4 _ (omega arith)
-    (refuses-guard Numbered (leb (getD l 4 0 % 16) 6) 5 4 _ (omega arith)
-    (refuses-guard Numbered (colorSpaceAllowed f) 6 5 _ (omega arith) (refuses-ok Numbered f)))))
+    refuses-guard Numbered (leb 6 (length l)) 2 0 _ tt
+    (refuses-guard Numbered (same magic (take 4 l)) 3 0 _ tt
+    (refuses-guard Numbered (leb (getD l 4 0 / 32) 5) 4 4 _ tt
+    (refuses-guard Numbered (leb (getD l 4 0 % 16) 6) 5 4 _ tt
+    (refuses-guard Numbered (colorSpaceAllowed f) 6 5 _ tt (refuses-ok Numbered f)))))
 
 flags-refuse : C flags
 unfolding flags
-flags-refuse = record { refuses = λ i p l. refuses-bind Numbered (readFlags l) _ (read-flags l) λ f. refuses-ok Numbered (f, p + 6, drop 6 l) }
+flags-refuse = record { refuses = λ i p l. refuses-bind Numbered (readFlags l) _ (read-flags l) λ f. refuses-ok Numbered (decoded f (p + 6) (drop 6 l)) }
 
 dimension-refuses : C dimension
 unfolding dimension
-dimension-refuses = guarded-refuses Numbered notZero 9 atOwn (λ _. omega arith) (number 32)
+dimension-refuses = guarded-refuses Numbered notZero 9 atOwn (λ _. tt) (number 32)
 
 file-refuses : E file
 unfolding file withLoop parts
 file-refuses =
     mappedExact-refuses Numbered contentFrom partsOf
     (derived-refuses Numbered (λ (x : Parts). loopOf (x .1 .1 .1 .1 .0))
-    (guardedRegion-refuses Numbered (λ size. leb size maxFile) 1 (λ _ _. 0) (λ _. omega arith)
+    (guardedRegion-refuses Numbered (λ l. leb (length l) maxFile) 1 (λ _ _. 0) (λ _. tt)
     (thenRest-refuses Numbered flags-refuse λ f.
     thenRest-refuses Numbered dimension-refuses λ _.
     thenRest-refuses Numbered dimension-refuses λ _.
     itemThenRest-refuses Numbered (number 32) λ n.
     thenRest-refuses Numbered (block-refuses (f .extensionPresent)) λ es.
-    guardedRegion-refuses Numbered (λ _. not (f .animation) || hasLoop es) 14 (λ _ _. 5) (λ _. omega arith)
-    (guardedRegion-refuses Numbered (countsBody n) 10 atItem (λ _. omega arith) (body-refuses f)))))
+    judged-refuses f n es)))
 
 pub content-refuses : (l : List ℕ) (s o : ℕ) → readContent l ≡ error s o → ReadingStatus s
 content-refuses l s o e = file-refuses .refuses 0 0 l s o (content-chain l ∙ e)

@@ -2,7 +2,7 @@
 use mathlib.Core.Path.{_≡_, refl, sym, ap, _∙_, subst}
 use mathlib.Core.Bool.{Bool, true, false}
 use mathlib.Core.List.{List, []}
-use mathlib.Core.Logic.{_↔_, _≢_, inl, inr}
+use mathlib.Core.Logic.{_↔_, _≢_}
 use Prim.Native.Nat.{ℕ, _+_, _≤_, _<_}
 use native.Mathlib.Omega.{arith}
 use lib.Dec.{leb}
@@ -11,6 +11,7 @@ use lib.Seq.{take-append-seam, drop-append-seam}
 use borrow.Author.Tests.{le-leb, lt-leb}
 use Rattle.bpg_codec.specs.Outcome.{Outcome, ok, error, _>>=_, guard}
 use Rattle.bpg_codec.specs.Lawful.{All, Byte}
+use Rattle.bpg_codec.proofs.Lists.{member-later}
 use Rattle.bpg_codec.proofs.Refusals.{Refuses}
 use Rattle.bpg_format.specs.declared.record.Range.{Range}
 use Rattle.bpg_format.specs.declared.record.Entry.{Entry}
@@ -21,7 +22,7 @@ use Rattle.bpg_format.specs.Content.{Extension, Content}
 use Rattle.bpg_format.specs.Syntax.{fileOf}
 use Rattle.bpg_format.specs.Rules.{Rules, Accepted}
 use Rattle.bpg_format.specs.Records.{recordOf, extensionOf, usedEntries, contentOf, answerOf, readFile, bytesIn}
-use Rattle.bpg_format.specs.Read.{readContent}
+use Rattle.bpg_format.specs.Read.{readContent, readingStatuses}
 use Rattle.bpg_format.specs.Parts.{entryOf, payloadOf, dataOf, rangesOf, rangeEnd, InOrder, joined}
 use Rattle.bpg_format.specs.Write.{writeOutcome, writtenAnswer, writtenBuffer, writeFile, writeBuffer, WritingStatus, Typed, Writable}
 use Rattle.bpg_format.specs.Pictures.{Picture, pictureOf, canonicalContent, canonicalBytes, Shows, SamePicture, canonicalOutcome, canonicalFile, canonicalBuffer, CanonicalizingStatus}
@@ -85,7 +86,7 @@ canonical-number : (f out : List ℕ) → canonicalFile f out .status ≢ 0 → 
 unfolding canonicalFile
 canonical-number f out =
     canonical-cases f out (λ o. writtenAnswer o .status ≢ 0 → CanonicalizingStatus (writtenAnswer o .status))
-    (λ s o e n. inl (content-refuses f s o e)) (λ n. inr refl) (λ c n. absurd (n refl))
+    (λ s o e n. member-later s 20 readingStatuses (content-refuses f s o e)) (λ n. tt) (λ c n. absurd (n refl))
 
 no-payload : (f : List ℕ) (k : ℕ) → readFile f .«record» .«entry_count» ≤ k → payloadOf f k ≡ []
 unfolding payloadOf entryOf
@@ -150,7 +151,7 @@ success o l out e = rw e (refl, refl, take-append-seam l (drop (length l) out), 
 
 written-outcome : (o : Outcome (List ℕ)) → Refuses (λ s p. WritingStatus s × (p ≡ 0)) o → writtenAnswer o .status ≡ 0 → (l : List ℕ) × (o ≡ ok l)
 written-outcome (ok l) h e = (l, refl)
-written-outcome (error s o) h e = absurd (omega (arith, h s o refl .0 .least))
+written-outcome (error s o) h e = absurd (subst WritingStatus e (h s o refl .0))
 
 exactly : (r : Record) (source out : List ℕ) → Typed r → All Byte source → (writeFile r source out .status ≡ 0) ↔ Writable (length out) r source
 unfolding writeFile

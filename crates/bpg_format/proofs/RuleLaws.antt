@@ -1,5 +1,5 @@
 -- A content is valid for the file's codec exactly when it keeps the rules by name. Assumes nothing.
-use mathlib.Core.Path.{_≡_, refl, sym, ap, _∙_}
+use mathlib.Core.Path.{_≡_, refl, sym, ap, _∙_, subst}
 use mathlib.Core.Bool.{Bool, true, false, not, _&&_, _||_, or-true}
 use mathlib.Core.List.{List, [], _∷_}
 use Prim.Native.Nat.{ℕ, _+_, _^_, _≤_, _<_}
@@ -16,14 +16,19 @@ use Rattle.bpg_codec.specs.Bits.{padded}
 use Rattle.bpg_codec.specs.Parts.{sequence, mapped, guarded, sized, absent}
 use Rattle.bpg_codec.specs.Regions.{thenRest, itemThenRest, mappedExact, derived, guardedRegion, rest, verbatim, ValidEach, repeated}
 use Rattle.bpg_codec.proofs.Select.{select-true, select-false, is-true, is-false}
+use Rattle.bpg_codec.proofs.Outcome.{ok-injective, unbind}
 use Rattle.bpg_numbers.specs.Ue7.{ue7Bytes}
 use Rattle.bpg_format.specs.Limits.{maxEntries, maxFile}
 use Rattle.bpg_format.specs.declared.record.Header.{Header}
 use Rattle.bpg_format.specs.Content.{Flags, Extension, Loop, Content, hasAlpha, bitDepth}
 use Rattle.bpg_format.specs.Syntax.{blockBytes, extensionPart, headerBits, headerBytes, bodyBytes, dataLength, fileOf}
 use Rattle.bpg_format.specs.Rules.{LoopPayload, isLoop, ExtensionRules, hasLoop, OneLoop, noLoop, Rules}
-use Rattle.bpg_format.specs.FileCodec.{FlagsRules, flags, dimension, period, loopNumbers, payload, extension, seenAfter, extensions, block, loopFrom, loopIn, loopOf, alphaHeader, body, countsBody, parts, withLoop, lengthOf, file}
+use Rattle.bpg_format.specs.Tests.{countsBody}
+use Rattle.bpg_format.specs.Read.{readLoop, loopFrom, loopOf}
+use Rattle.bpg_format.specs.FileCodec.{FlagsRules, flags, dimension, period, loopNumbers, payload, extension, seenAfter, extensions, block, alphaHeader}
+use Rattle.bpg_format.specs.FileCodec.{body, judgedBody, parts, withLoop, lengthOf, file}
 use Rattle.bpg_format.proofs.FileLaws.{loopNumbers-lawful}
+use Rattle.bpg_format.proofs.Chain.{Numbers, loopOfNumbers, loop-chain}
 use Rattle.bpg_format.proofs.SyntaxLaws.{payload-encode, each-encode, length-encode, file-encode}
 use Rattle.bpg_format.proofs.HeaderRuleLaws.{unless-full, passed, passes, by-flag, opt-present, opt-absent, opt-valid, header-sound, header-full}
 
@@ -32,38 +37,40 @@ bool-apart e f = absurd (let z : _≡_ {A = ℕ} 0 1 = cc in omega arith)
 
 -- ---- a tag 5 payload
 
-abbrev pub Numbers : Type 0
-Numbers = ℕ × (ℕ × (ℕ × List ℕ))
-
-abbrev pub loopOfNumbers : Numbers → Loop
-loopOfNumbers x = record { count = x .0; periodNum = x .1 .0; periodDen = x .1 .1 .0 }
-
-pub numbers-sound : (x : Numbers) (l : List ℕ) → loopNumbers .Valid x → l ≡ loopNumbers .encode x → LoopPayload l (loopOfNumbers x) (x .1 .1 .1)
+numbers-sound : (x : Numbers) (l : List ℕ) → loopNumbers .Valid x → l ≡ loopNumbers .encode x → LoopPayload l (loopOfNumbers x) (x .1 .1 .1)
 unfolding loopNumbers thenRest period guarded rest
 numbers-sound x l v e = search eqb-no
 
-abbrev pub numbersOf : Loop → List ℕ → Numbers
+abbrev numbersOf : Loop → List ℕ → Numbers
 numbersOf p dummy = (p .count, (p .periodNum, (p .periodDen, dummy)))
 
-pub numbers-full : (l : List ℕ) (p : Loop) (dummy : List ℕ) → LoopPayload l p dummy
+numbers-full : (l : List ℕ) (p : Loop) (dummy : List ℕ) → LoopPayload l p dummy
     → loopNumbers .Valid (numbersOf p dummy) × (l ≡ loopNumbers .encode (numbersOf p dummy))
 unfolding loopNumbers thenRest period guarded rest
 numbers-full l p dummy r = search no-eqb depth 7
 
--- the numbers that the payload holds
-pub loop-decodes : (l : List ℕ) (p : Loop) (dummy : List ℕ) → LoopPayload l p dummy → loopNumbers .decode 0 0 l ≡ ok (numbersOf p dummy)
-loop-decodes l p dummy r = let n = numbers-full l p dummy r in ap (loopNumbers .decode 0 0) (n .1) ∙ loopNumbers-lawful .decodes (numbersOf p dummy) (n .0) 0 0
+-- the numbers that the payload holds are read, wherever it stands
+loop-decodes : (l : List ℕ) (p : Loop) (dummy : List ℕ) → LoopPayload l p dummy → (q : ℕ) → loopNumbers .decode q q l ≡ ok (numbersOf p dummy)
+loop-decodes l p dummy r q =
+    let n = numbers-full l p dummy r in
+    ap (loopNumbers .decode q q) (n .1) ∙ loopNumbers-lawful .decodes (numbersOf p dummy) (n .0) q q
 
-pub loop-in : (l : List ℕ) (p : Loop) (dummy : List ℕ) → LoopPayload l p dummy → loopIn l ≡ p
-unfolding loopIn
-loop-in l p dummy r = ap loopFrom (loop-decodes l p dummy r)
+pub loop-reads : (l : List ℕ) (p : Loop) (dummy : List ℕ) → LoopPayload l p dummy → (q : ℕ) → readLoop q l ≡ ok p
+loop-reads l p dummy r q = loop-chain q q l ∙ rw (loop-decodes l p dummy r q)
+
+-- and those that are read are held
+pub loop-read : (l : List ℕ) → All Byte l → (q : ℕ) (p : Loop) → readLoop q l ≡ ok p → (dummy : List ℕ) × LoopPayload l p dummy
+loop-read l h q p e =
+    unbind (loopNumbers .decode q q l) _ (sym (loop-chain q q l) ∙ e) λ x e1 e2.
+    let s = loopNumbers-lawful .encodes q q l h x e1 in
+    (x .1 .1 .1, subst (λ (y : Loop). LoopPayload l y (x .1 .1 .1)) (ok-injective e2) (numbers-sound x l (s .0) (s .1)))
 
 -- what a payload that can be read is
 abbrev Readable : List ℕ → Type 0
 Readable l = (x : Numbers) × loopNumbers .Valid x × (l ≡ loopNumbers .encode x)
 
-readable-loop : (l : List ℕ) (v : Readable l) → LoopPayload l (loopIn l) (v .0 .1 .1 .1)
-readable-loop l v = let s = numbers-sound (v .0) l (v .1) (v .2) in rw (loop-in l _ _ s) s
+readable-loop : (l : List ℕ) (v : Readable l) → LoopPayload l (loopFrom (readLoop 0 l)) (v .0 .1 .1 .1)
+readable-loop l v = let s = numbers-sound (v .0) l (v .1) (v .2) in rw (loop-reads l _ _ s 0) s
 
 payload-loop : (b : Bool) (l : List ℕ) → payload b .Valid l → b ≡ true → Readable l
 unfolding payload verbatim
@@ -119,7 +126,7 @@ one-sound : (seen : Bool) (es : List Extension) → EachValid seen es → OneLoo
 one-sound seen [] v = tt
 one-sound seen (e ∷ es) v = ((λ l. no-loops (seenAfter seen e) es (v .1) (rw l (or-true seen))), one-sound (seenAfter seen e) es (v .1))
 
-loop-head : (e : Extension) (es : List Extension) → isLoop e ≡ true → loopOf (e ∷ es) ≡ loopIn (e .payload)
+loop-head : (e : Extension) (es : List Extension) → isLoop e ≡ true → loopOf (e ∷ es) ≡ loopFrom (readLoop 0 (e .payload))
 unfolding loopOf
 loop-head e es h = select-true _ _ h
 
@@ -145,7 +152,7 @@ loop-none [] h = no-entries
 loop-none (e ∷ es) h = let n = neither (isLoop e) (hasLoop es) h in loop-tail e es (n .0) ∙ loop-none es (n .1)
 
 -- an entry of which the loop numbers are p
-rules-of-entry : (seen : Bool) (e : Extension) (p : Loop) → extension seen .Valid e → (isLoop e ≡ true → p ≡ loopIn (e .payload)) → ExtensionRules p e
+rules-of-entry : (seen : Bool) (e : Extension) (p : Loop) → extension seen .Valid e → (isLoop e ≡ true → p ≡ loopFrom (readLoop 0 (e .payload))) → ExtensionRules p e
 rules-of-entry seen e p v f =
     let s = entry-sound seen e v in
     record {
@@ -167,7 +174,7 @@ loop-full : (es : List Extension) (p : Loop) → All (ExtensionRules p) es → h
 loop-full [] p r h = bool-apart h refl
 loop-full (e ∷ es) p r h =
     by-tag (isLoop e)
-    (λ l. let d = r .0 .loop l in sym (loop-in (e .payload) p (d .0) (d .1)) ∙ sym (loop-head e es l))
+    (λ l. let d = r .0 .loop l in sym (loop-head e es l ∙ ap loopFrom (loop-reads (e .payload) p (d .0) (d .1) 0)))
     (λ l. loop-full es p (r .1) (rw l at h) ∙ sym (loop-tail e es l))
 
 readable-of : (e : Extension) (p : Loop) → ExtensionRules p e → isLoop e ≡ true → Readable (e .payload)
@@ -239,7 +246,7 @@ module _ (c : Content) where
 -- ---- the file
 
 pub file-sound : (c : Content) → file .Valid c → Rules c
-unfolding file mappedExact withLoop derived parts guardedRegion thenRest itemThenRest flags dimension guarded block body alphaHeader rest
+unfolding file mappedExact withLoop derived parts judgedBody guardedRegion thenRest itemThenRest flags dimension guarded block body alphaHeader rest
 file-sound c v =
     let each = block-sound (c .flags .extensionPresent) (c .extensions) (v .0 .1 .1 .1 .1 .1 .0) in
     let entries = entries-sound false (c .extensions) (each .0) (c .loop) (λ _. v .1) in
@@ -279,7 +286,7 @@ module _ (c : Content) (r : Rules c) where
   depth-most = omega (arith, r .bit-depth)
 
 pub file-full : (c : Content) → Rules c → file .Valid c
-unfolding file mappedExact withLoop derived parts guardedRegion thenRest itemThenRest flags dimension guarded body alphaHeader rest
+unfolding file mappedExact withLoop derived parts judgedBody guardedRegion thenRest itemThenRest flags dimension guarded body alphaHeader rest
 file-full c r =
     let es = entries-full false (c .extensions) (c .loop) (r .entries) (r .one-loop) (λ e. bool-apart e refl) (block-fits c r) in
     let block = block-full (c .flags .extensionPresent) (c .extensions) (r .absent-block) es (r .entry-limit) (block-fits c r) in

@@ -14,8 +14,11 @@ use Rattle.bpg_bits.specs.BitNumbers.{expGolombBits}
 use Rattle.bpg_format.specs.declared.record.Header.{Header}
 use Rattle.bpg_format.specs.Zero.{zeroHeader}
 use Rattle.bpg_format.specs.Content.{Extension, Content, hasAlpha, bitDepth}
-use Rattle.bpg_format.specs.Syntax.{extensionBytes, blockBytes, extensionPart, pcmBits, spsExtensionBits, headerBits, headerBytes, bodyBytes, dataLength, fileOf}
-use Rattle.bpg_format.specs.FileCodec.{flags, dimension, payload, extension, seenAfter, extensions, block, oneBit, optional, SizeFields, sizeFields, pcmFields, spsFields, noPcm, noSps, fieldSequence, sizesOf, pcmOf, headerFields, header, alphaHeader, body, parts, lengthOf, withLoop, file}
+use Rattle.bpg_format.specs.Syntax.{extensionBytes, blockBytes, extensionPart, pcmBits, spsExtensionBits, headerBits, headerBytes, bodyBytes, dataLength}
+use Rattle.bpg_format.specs.Syntax.{fileOf}
+use Rattle.bpg_format.specs.FileCodec.{flags, dimension, payload, extension, seenAfter, extensions, block, oneBit, optional, SizeFields, sizeFields}
+use Rattle.bpg_format.specs.FileCodec.{pcmFields, spsFields, noPcm, noSps, fieldSequence, sizesOf, pcmOf, headerFields, header, alphaHeader, body}
+use Rattle.bpg_format.specs.FileCodec.{judgedBody, parts, lengthOf, withLoop, file}
 
 -- ---- the extension block
 
@@ -104,5 +107,5 @@ unfolding dataLength
 length-encode c = rw (body-encode c)
 
 pub file-encode : (c : Content) → file .encode c ≡ fileOf c
-unfolding file mappedExact withLoop derived parts guardedRegion thenRest itemThenRest flags dimension guarded fileOf
+unfolding file mappedExact withLoop derived parts judgedBody guardedRegion thenRest itemThenRest flags dimension guarded fileOf
 file-encode c = rw (length-encode c, block-encode (c .flags .extensionPresent) (c .extensions), body-encode c)

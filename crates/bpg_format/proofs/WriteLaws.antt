@@ -15,11 +15,12 @@ use Rattle.bpg_format.specs.declared.record.Header.{Header}
 use Rattle.bpg_format.specs.Zero.{zeroHeader}
 use Rattle.bpg_format.specs.Content.{Extension, Loop}
 use Rattle.bpg_format.specs.Rules.{NoPcm, NoSpsExtension, FieldRules, HeaderRules, LoopPayload, isLoop, ExtensionRules, hasLoop, OneLoop}
-use Rattle.bpg_format.specs.FileCodec.{headerFrom, fieldsOf, loopNumbers, noForbiddenBit, hevcAllowed}
+use Rattle.bpg_format.specs.Tests.{noForbiddenBit, hevcAllowed}
+use Rattle.bpg_format.specs.Read.{readLoop}
+use Rattle.bpg_format.specs.FileCodec.{headerFrom, fieldsOf}
 use Rattle.bpg_format.specs.Write.{pcmZero, absentZero, headerZero, sameLoop, atZero, checkLoop, checkEntries, fieldsCoded, checkHeader}
-use Rattle.bpg_format.proofs.FileLaws.{loopNumbers-lawful}
 use Rattle.bpg_format.proofs.HeaderRuleLaws.{passed, passes, by-flag, nine-zeros, forbidden-sound, forbidden-full, hevc-sound, hevc-full}
-use Rattle.bpg_format.proofs.RuleLaws.{loopOfNumbers, numbers-sound, loop-decodes, none-seen, seen-head, seen-tail}
+use Rattle.bpg_format.proofs.RuleLaws.{loop-reads, loop-read, none-seen, seen-head, seen-tail}
 
 -- either flag, or a test
 pub or-test : (a b : Bool) → T (a || b) → a ≡ false → T b
@@ -126,15 +127,12 @@ loop-same p = is-true _ (search (and-both, eqb-refl))
 loop-checked : (p : Loop) (l : List ℕ) → All Byte l → checkLoop p l ≡ ok tt → (dummy : List ℕ) × LoopPayload l p dummy
 unfolding checkLoop
 loop-checked p l h e =
-    unbind (atZero (loopNumbers .decode 0 0 l)) _ e λ x e1 e2.
-    let d = at-zero (loopNumbers .decode 0 0 l) x e1 in
-    let s = loopNumbers-lawful .encodes 0 0 l h x d in
-    let q = same-loop p (loopOfNumbers x) (guard-holds (sameLoop p (loopOfNumbers x)) 19 0 e2) in
-    (x .1 .1 .1, rw q (numbers-sound x l (s .0) (s .1)))
+    unbind (atZero (readLoop 0 l)) _ e λ x e1 e2.
+    rw (same-loop p x (guard-holds (sameLoop p x) 19 0 e2)) (loop-read l h 0 x (at-zero (readLoop 0 l) x e1))
 
 loop-passes : (p : Loop) (l dummy : List ℕ) → LoopPayload l p dummy → checkLoop p l ≡ ok tt
 unfolding checkLoop
-loop-passes p l dummy r = rw (loop-decodes l p dummy r, loop-same p)
+loop-passes p l dummy r = rw (loop-reads l p dummy r 0, loop-same p)
 
 pub record Checked (p : Loop) (seen : Bool) (es : List Extension) : Type 0 where
   pub entries : All (ExtensionRules p) es

@@ -23,7 +23,7 @@ use Rattle.bpg_format.specs.Zero.{zeroEntry, zeroHeader}
 use Rattle.bpg_format.specs.Content.{isEmpty, Extension, Content, hasAlpha, bitDepth}
 use Rattle.bpg_format.specs.Syntax.{blockBytes, fileOf}
 use Rattle.bpg_format.specs.Rules.{HeaderRules, hasLoop, noLoop, Rules}
-use Rattle.bpg_format.specs.FileCodec.{colorSpaceAllowed}
+use Rattle.bpg_format.specs.Tests.{colorSpaceAllowed}
 use Rattle.bpg_format.specs.Records.{entriesAt, blockStart, recordOf, extensionOf, usedEntries, contentOf}
 use Rattle.bpg_format.specs.Write.{inSource, entriesInSource, rangesInSource, isZero, zeroEntries, unusedZero, absentZero, sameLoop, consistent, checkEntries, checkHeader, checkContent, checkRecord, sizedFile, writeOutcome, Typed, Writable}
 use Rattle.bpg_format.proofs.HeaderRuleLaws.{unless-full, passed, by-flag}

@@ -1,9 +1,8 @@
--- Writing refuses at offset 0, with no other number than document 01's for writing. Assumes nothing.
+-- Writing refuses at offset 0, with no other number than document 01's for writing.
 use mathlib.Core.Path.{_≡_, refl}
 use mathlib.Core.Bool.{Bool, true, false, not, _&&_, _||_}
 use mathlib.Core.List.{List, [], _∷_}
 use Prim.Native.Nat.{ℕ}
-use native.Mathlib.Omega.{arith}
 use lib.Dec.{leb}
 use lib.ListN.{length}
 use Rattle.bpg_codec.specs.Select.{select}
@@ -16,7 +15,8 @@ use Rattle.bpg_format.specs.Limits.{maxEntries, maxFile}
 use Rattle.bpg_format.specs.Content.{Extension, Loop, Content, hasAlpha, bitDepth}
 use Rattle.bpg_format.specs.Syntax.{fileOf}
 use Rattle.bpg_format.specs.Rules.{isLoop, hasLoop}
-use Rattle.bpg_format.specs.FileCodec.{colorSpaceAllowed, loopNumbers, loopFrom, noForbiddenBit, hevcAllowed}
+use Rattle.bpg_format.specs.Tests.{colorSpaceAllowed, noForbiddenBit, hevcAllowed}
+use Rattle.bpg_format.specs.Read.{readLoop}
 use Rattle.bpg_format.specs.Records.{contentOf}
 use Rattle.bpg_format.specs.Write.{rangesInSource, unusedZero, consistent, sameLoop, atZero, checkLoop, checkEntries, fieldsCoded, checkHeader, checkContent, checkRecord, sizedFile, writeOutcome, WritingStatus}
 use Rattle.bpg_format.proofs.ReadingRefusals.{loop-refuses}
@@ -41,15 +41,15 @@ at-zero-refuses (error s o) h = refuses-error AtZero s 0 (h s o refl, refl)
 pub loop-check : (p : Loop) (l : List ℕ) → R (checkLoop p l)
 unfolding checkLoop
 loop-check p l =
-    let own = loop-refuses (λ s o. WritingStatus s) (λ _. omega arith) (λ _. omega arith) (λ _. omega arith) (λ _. omega arith) in
-    refuses-bind AtZero (atZero (loopNumbers .decode 0 0 l)) _ (at-zero-refuses (loopNumbers .decode 0 0 l) (own .refuses 0 0 l)) λ x.
-    last-rule (sameLoop p (loopFrom (ok x))) 19 (omega arith)
+    let own = loop-refuses (λ s o. WritingStatus s) (λ _. tt) (λ _. tt) (λ _. tt) (λ _. tt) in
+    refuses-bind AtZero (atZero (readLoop 0 l)) _ (at-zero-refuses (readLoop 0 l) (own 0 l)) λ x.
+    last-rule (sameLoop p x) 19 (tt, refl)
 
 pub entries-check : (p : Loop) (seen : Bool) (es : List Extension) → R (checkEntries p seen es)
 unfolding checkEntries
 entries-check p seen [] = refuses-ok AtZero tt
 entries-check p seen (e ∷ es) =
-    rule (not (seen && isLoop e)) 13 _ (omega arith)
+    rule (not (seen && isLoop e)) 13 _ (tt, refl)
     (refuses-bind AtZero (select (isLoop e) (checkLoop p (e .payload)) (ok tt)) _
     (refuses-select AtZero (isLoop e) _ _ (loop-check p (e .payload)) (refuses-ok AtZero tt)) λ _.
     entries-check p (seen || isLoop e) es)
@@ -57,18 +57,18 @@ entries-check p seen (e ∷ es) =
 pub header-check : (depth : ℕ) (h : Header) → R (checkHeader depth h)
 unfolding checkHeader
 header-check depth h =
-    rule (fieldsCoded h) 15 _ (omega arith) (rule (noForbiddenBit h) 17 _ (omega arith) (last-rule (hevcAllowed depth h) 16 (omega arith)))
+    rule (fieldsCoded h) 15 _ (tt, refl) (rule (noForbiddenBit h) 17 _ (tt, refl) (last-rule (hevcAllowed depth h) 16 (tt, refl)))
 
 pub content-check : (c : Content) → R (checkContent c)
 unfolding checkContent
 content-check c =
-    rule (leb (c .flags .pixelFormat) 5) 4 _ (omega arith)
-    (rule (leb (c .flags .bitDepthMinus8) 6) 5 _ (omega arith)
-    (rule (colorSpaceAllowed (c .flags)) 6 _ (omega arith)
-    (rule (notZero (c .width)) 9 _ (omega arith)
-    (rule (notZero (c .height)) 9 _ (omega arith)
+    rule (leb (c .flags .pixelFormat) 5) 4 _ (tt, refl)
+    (rule (leb (c .flags .bitDepthMinus8) 6) 5 _ (tt, refl)
+    (rule (colorSpaceAllowed (c .flags)) 6 _ (tt, refl)
+    (rule (notZero (c .width)) 9 _ (tt, refl)
+    (rule (notZero (c .height)) 9 _ (tt, refl)
     (refuses-bind AtZero (checkEntries (c .loop) false (c .extensions)) _ (entries-check (c .loop) false (c .extensions)) λ _.
-    rule (not (c .flags .animation) || hasLoop (c .extensions)) 14 _ (omega arith)
+    rule (not (c .flags .animation) || hasLoop (c .extensions)) 14 _ (tt, refl)
     (refuses-bind AtZero (select (hasAlpha (c .flags)) (checkHeader (bitDepth (c .flags)) (c .alphaHeader)) (ok tt)) _
     (refuses-select AtZero (hasAlpha (c .flags)) _ _ (header-check (bitDepth (c .flags)) (c .alphaHeader)) (refuses-ok AtZero tt)) λ _.
     header-check (bitDepth (c .flags)) (c .colorHeader)))))))
@@ -77,13 +77,13 @@ pub record-check : (r : Record) (source : List ℕ) → R (checkRecord r source)
 unfolding checkRecord
 record-check r source =
     let c = contentOf r source in
-    rule (leb (r .«entry_count») maxEntries) 11 _ (omega arith)
-    (rule (rangesInSource source r) 18 _ (omega arith) (rule (unusedZero r && consistent c) 19 _ (omega arith) (content-check c)))
+    rule (leb (r .«entry_count») maxEntries) 11 _ (tt, refl)
+    (rule (rangesInSource source r) 18 _ (tt, refl) (rule (unusedZero r && consistent c) 19 _ (tt, refl) (content-check c)))
 
 pub write-refuses : (capacity : ℕ) (r : Record) (source : List ℕ) → R (writeOutcome capacity r source)
 unfolding writeOutcome sizedFile
 write-refuses capacity r source =
     let c = contentOf r source in
     refuses-bind AtZero (checkRecord r source) _ (record-check r source) λ _.
-    rule (leb (length (fileOf c)) maxFile) 1 _ (omega arith)
-    (rule (leb (length (fileOf c)) capacity) 20 _ (omega arith) (refuses-ok AtZero (fileOf c)))
+    rule (leb (length (fileOf c)) maxFile) 1 _ (tt, refl)
+    (rule (leb (length (fileOf c)) capacity) 20 _ (tt, refl) (refuses-ok AtZero (fileOf c)))

@@ -6,8 +6,8 @@ use mathlib.Core.List.{List, [], _∷_, _++_}
 use Prim.Native.Nat.{ℕ}
 use lib.ListN.{length, replicate}
 use Rattle.bpg_codec.specs.Outcome.{Outcome, ok, error, located}
-use Rattle.bpg_numbers.specs.Ue7.{ue7}
-use Rattle.bpg_bits.specs.BitNumbers.{expGolomb}
+use Rattle.bpg_numbers.specs.Ue7.{ue7Decode}
+use Rattle.bpg_bits.specs.BitNumbers.{expGolombDecode}
 use Rattle.bpg_format.specs.declared.record.Entry.{Entry}
 use Rattle.bpg_format.specs.declared.record.Header.{Header}
 use Rattle.bpg_format.specs.declared.record.Record.{Record}
@@ -117,8 +117,8 @@ pub data Example : Type 0 where
   canonicalizes : List ℕ → List ℕ → Example
 
 abbrev pub Holds : Example → Type 0
-Holds (number n l o) = located (ue7 n .decode 0 0 l) ≡ o
-Holds (code l o) = located (expGolomb .decode 0 0 l) ≡ o
+Holds (number n l o) = located (ue7Decode n 0 l) ≡ o
+Holds (code l o) = located (expGolombDecode 0 0 l) ≡ o
 Holds (reads f r) = readFile f ≡ r
 Holds (canonicalizes f g) = canonicalBuffer f (replicate (length g) 0) ≡ g
 

@@ -1,16 +1,17 @@
--- The format as codecs (document 01, "Order of the file"): the laws of the combinators give that a file is read as a content exactly when
--- it is the file of that content, and that the content keeps the rules. `Read` has the same reading as one plain chain.
+-- For proofs and inner contracts: a reader of the format need not open this file. The format as codecs (document 01, "Order of the file"):
+-- the laws of the combinators give that a file is read as a content exactly when it is the file of that content, and that the content keeps
+-- the rules. Its decoding is `Read`'s (`proofs/Chain`), its encoding is `Syntax`'s (`proofs/SyntaxLaws`).
 use mathlib.Core.Bool.{Bool, false, not, _&&_, _||_}
 use mathlib.Core.List.{List, [], _∷_, _++_}
-use Prim.Native.Nat.{ℕ, _+_, _/_, _%_}
-use lib.Dec.{T, leb, ltb, eqb}
-use lib.ListN.{length, take, drop, getD, replicate}
+use Prim.Native.Nat.{ℕ, _+_}
+use lib.Dec.{T, leb, eqb}
+use lib.ListN.{length, drop, replicate}
 use Rattle.bpg_codec.specs.Select.{select}
-use Rattle.bpg_codec.specs.Outcome.{Outcome, ok, error, _>>=_, guard}
+use Rattle.bpg_codec.specs.Outcome.{ok, _>>=_, decoded}
 use Rattle.bpg_codec.specs.Codec.{Codec, Exact, atItem, atOwn}
 use Rattle.bpg_codec.specs.Lawful.{Byte}
 use Rattle.bpg_codec.specs.Bits.{Bit, bit}
-use Rattle.bpg_codec.specs.Parts.{sequence, mapped, guarded, sized, item, absent, fixed, same}
+use Rattle.bpg_codec.specs.Parts.{sequence, mapped, guarded, sized, item, absent, fixed}
 use Rattle.bpg_codec.specs.Regions.{thenRest, itemThenRest, mappedExact, derived, guardedRegion, rest, verbatim, repeated, packed}
 use Rattle.bpg_numbers.specs.Ue7.{ue7, notZero}
 use Rattle.bpg_bits.specs.BitNumbers.{unsigned, expGolomb}
@@ -19,52 +20,22 @@ use Rattle.bpg_format.specs.declared.record.Header.{Header}
 use Rattle.bpg_format.specs.Zero.{zeroHeader}
 use Rattle.bpg_format.specs.Content.{Flags, Extension, Loop, Content, hasAlpha, bitDepth}
 use Rattle.bpg_format.specs.Syntax.{magic, byte4, byte5}
-use Rattle.bpg_format.specs.Rules.{minCbLog2SizeY, ctbLog2SizeY, minTbLog2SizeY, maxTbLog2SizeY, log2MinIpcmCbSizeY, isLoop, hasLoop, noLoop}
+use Rattle.bpg_format.specs.Rules.{isLoop, hasLoop}
+use Rattle.bpg_format.specs.Tests.{colorSpaceAllowed, countsBody, noForbiddenBit, hevcAllowed}
+use Rattle.bpg_format.specs.Read.{readFlags, loopOf}
 
 -- ---- items 1 and 2: magic, byte 4, byte 5
-
--- the bit of a byte whose weight is w, a power of two
-abbrev pub flag : (byte w : ℕ) → Bool
-flag b w = eqb (b / w % 2) 1
-
-abbrev pub flagsOf : (b4 b5 : ℕ) → Flags
-flagsOf b4 b5 =
-    record {
-      pixelFormat = b4 / 32;
-      alpha1 = flag b4 16;
-      bitDepthMinus8 = b4 % 16;
-      colorSpace = b5 / 16;
-      extensionPresent = flag b5 8;
-      alpha2 = flag b5 4;
-      limitedRange = flag b5 2;
-      animation = flag b5 1;
-    }
-
--- refusal 6: 0 to 4; 0 if the pixel format is 0
-abbrev pub colorSpaceAllowed : Flags → Bool
-colorSpaceAllowed f = leb (f .colorSpace) 4 && (not (eqb (f .pixelFormat) 0) || eqb (f .colorSpace) 0)
 
 pub record FlagsRules (f : Flags) : Type 0 where
   pub pixel-format : T (leb (f .pixelFormat) 5)
   pub bit-depth : T (leb (f .bitDepthMinus8) 6)
   pub color-space : T (colorSpaceAllowed f)
 
--- fewer than 6 bytes is 2 at place 0; format before depth on byte 4. These stand at the start of a file: the places are the file's
-unfoldable pub readFlags : List ℕ → Outcome Flags
-readFlags l =
-    let f = flagsOf (getD l 4 0) (getD l 5 0) in
-    guard (leb 6 (length l)) 2 0 >>= λ _.
-    guard (same magic (take 4 l)) 3 0 >>= λ _.
-    guard (leb (f .pixelFormat) 5) 4 4 >>= λ _.
-    guard (leb (f .bitDepthMinus8) 6) 5 4 >>= λ _.
-    guard (colorSpaceAllowed f) 6 5 >>= λ _.
-    ok f
-
 unfoldable pub flags : Codec ℕ Flags
 flags =
     record {
       encode = λ f. magic ++ (byte4 f ∷ byte5 f ∷ []);
-      decode = λ i p l. readFlags l >>= λ f. ok (f, p + 6, drop 6 l);
+      decode = λ i p l. readFlags l >>= λ f. ok (decoded f (p + 6) (drop 6 l));
       Valid = FlagsRules;
     }
 
@@ -100,18 +71,6 @@ extensions = repeated extension seenAfter 11 maxEntries false
 
 unfoldable pub block : Bool → Codec ℕ (List Extension)
 block present = select present (sized 2 (ue7 32) extensions) (absent [])
-
--- the loop numbers of the tag 5 payload; zero where there is none
-abbrev pub loopFrom : Outcome (ℕ × (ℕ × (ℕ × List ℕ))) → Loop
-loopFrom (ok x) = record { count = x .0; periodNum = x .1 .0; periodDen = x .1 .1 .0 }
-loopFrom (error s o) = noLoop
-
-unfoldable pub loopIn : List ℕ → Loop
-loopIn l = loopFrom (loopNumbers .decode 0 0 l)
-
-unfoldable pub loopOf : List Extension → Loop
-loopOf [] = noLoop
-loopOf (e ∷ es) = select (isLoop e) (loopIn (e .payload)) (loopOf es)
 
 -- ---- item 6: HEVC headers
 
@@ -239,30 +198,6 @@ fieldsOf h = (
 unfoldable pub headerFields : Codec Bool Header
 headerFields = mapped fieldSequence headerFrom fieldsOf
 
--- refusal 17
-abbrev pub rangeFlag : Header → ℕ → Bool
-rangeFlag h k = getD (h .«range_flags») k false
-
-unfoldable pub noForbiddenBit : Header → Bool
-noForbiddenBit h = eqb (h .«sps_extension_7bits») 0 && (not (rangeFlag h 3) && (not (rangeFlag h 4) && (not (rangeFlag h 6) && not (rangeFlag h 8))))
-
--- refusal 16
-unfoldable pub pcmAllowed : (depth : ℕ) → Header → Bool
-pcmAllowed depth h =
-    leb (h .«pcm_sample_bit_depth_luma_minus1» + 1) depth
-    && (leb (h .«pcm_sample_bit_depth_chroma_minus1» + 1) depth
-    && (leb (minCbLog2SizeY h) (log2MinIpcmCbSizeY h)
-    && leb (log2MinIpcmCbSizeY h + h .«log2_diff_max_min_pcm_luma_coding_block_size») (ctbLog2SizeY h)))
-
-unfoldable pub hevcAllowed : (depth : ℕ) → Header → Bool
-hevcAllowed depth h =
-    leb 4 (ctbLog2SizeY h)
-    && (leb (ctbLog2SizeY h) 6
-    && (ltb (minTbLog2SizeY h) (minCbLog2SizeY h)
-    && (leb (maxTbLog2SizeY h) (ctbLog2SizeY h)
-    && (leb (h .«max_transform_hierarchy_depth_intra» + minTbLog2SizeY h) (ctbLog2SizeY h)
-    && (not (h .«pcm_enabled_flag») || pcmAllowed depth h)))))
-
 -- length, fits (2), fields and trailing bits (15), 17, 16, each at the header's length
 unfoldable pub header : (depth : ℕ) → Codec ℕ Header
 header depth =
@@ -275,26 +210,26 @@ alphaHeader f = select (hasAlpha f) (header (bitDepth f)) (absent zeroHeader)
 unfoldable pub body : Flags → Exact ℕ (Header × (Header × List ℕ))
 body f = thenRest (alphaHeader f) λ _. thenRest (header (bitDepth f)) λ _. rest Byte
 
--- ---- the file
+-- 14, then 10, before them
+unfoldable pub judgedBody : Flags → (dataLength : ℕ) → List Extension → Exact ℕ (Header × (Header × List ℕ))
+judgedBody f n es =
+    guardedRegion (λ _. not (f .animation) || hasLoop es) 14 (λ _ _. 5)
+    (guardedRegion (λ l. countsBody n (length l)) 10 atItem (body f))
 
--- the data length counts the body, or is zero
-abbrev pub countsBody : (n size : ℕ) → Bool
-countsBody n size = eqb n 0 || eqb n size
+-- ---- the file
 
 abbrev pub Parts : Type 0
 Parts = Flags × (ℕ × (ℕ × (ℕ × (List Extension × (Header × (Header × List ℕ))))))
 
 unfoldable pub parts : Exact ℕ Parts
 parts =
-    guardedRegion (λ size. leb size maxFile) 1 (λ _ _. 0)
+    guardedRegion (λ l. leb (length l) maxFile) 1 (λ _ _. 0)
     (thenRest flags λ f.
     thenRest dimension λ _.
     thenRest dimension λ _.
     itemThenRest (ue7 32) λ n.
     thenRest (block (f .extensionPresent)) λ es.
-    guardedRegion (λ _. not (f .animation) || hasLoop es) 14 (λ _ _. 5)
-    (guardedRegion (countsBody n) 10 atItem
-    (body f)))
+    judgedBody f n es)
 
 unfoldable pub withLoop : Exact ℕ (Parts × Loop)
 withLoop = derived parts (λ x. loopOf (x .1 .1 .1 .1 .0))

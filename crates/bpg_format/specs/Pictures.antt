@@ -2,12 +2,12 @@
 use mathlib.Core.Bool.{Bool, false, not}
 use mathlib.Core.List.{List, [], _∷_, _++_, map}
 use mathlib.Core.Path.{_≡_}
-use mathlib.Core.Logic.{_⊎_}
 use Prim.Native.Nat.{ℕ}
-use lib.Dec.{leb}
+use lib.Dec.{T, leb}
 use lib.ListN.{length}
 use Rattle.bpg_codec.specs.Select.{select}
-use Rattle.bpg_codec.specs.Outcome.{Outcome, ok, error, _>>=_, guard}
+use Rattle.bpg_codec.specs.Lists.{member}
+use Rattle.bpg_codec.specs.Outcome.{Outcome, ok, _>>=_, guard}
 use Rattle.bpg_codec.specs.Bits.{allZero}
 use Rattle.bpg_numbers.specs.Ue7.{ue7Bytes}
 use Rattle.bpg_format.specs.declared.record.Header.{Header}
@@ -15,8 +15,7 @@ use Rattle.bpg_format.specs.declared.answer.Written.{Written}
 use Rattle.bpg_format.specs.Content.{isEmpty, Extension, Loop, Content}
 use Rattle.bpg_format.specs.Syntax.{fileOf}
 use Rattle.bpg_format.specs.Rules.{isLoop, Rules}
-use Rattle.bpg_format.specs.FileCodec.{loopNumbers}
-use Rattle.bpg_format.specs.Read.{readContent, ReadingStatus}
+use Rattle.bpg_format.specs.Read.{readContent, readingStatuses}
 use Rattle.bpg_format.specs.Write.{writtenAnswer, writtenBuffer}
 
 -- ---- the picture: the content without the four encoding choices
@@ -192,28 +191,6 @@ canonicalContent c = withChoices (pictureOf c) (canonicalChoices (pictureOf c))
 unfoldable pub canonicalBytes : Content → List ℕ
 canonicalBytes c = fileOf (canonicalContent c)
 
--- ---- the choices that a content has made
-
-abbrev pub dummyFrom : Outcome (ℕ × (ℕ × (ℕ × List ℕ))) → List ℕ
-dummyFrom (ok x) = x .1 .1 .1
-dummyFrom (error s o) = []
-
-unfoldable pub dummyOf : List Extension → List ℕ
-dummyOf [] = []
-dummyOf (e ∷ es) = select (isLoop e) (dummyFrom (loopNumbers .decode 0 0 (e .payload))) (dummyOf es)
-
-unfoldable pub choicesOf : Content → Choices
-choicesOf c =
-    record {
-      explicitLength = c .explicitLength;
-      extensionPresent = c .flags .extensionPresent;
-      alphaSps = c .alphaHeader .«sps_extension_present_flag»;
-      alphaRange = c .alphaHeader .«sps_range_extension_flag»;
-      colorSps = c .colorHeader .«sps_extension_present_flag»;
-      colorRange = c .colorHeader .«sps_range_extension_flag»;
-      dummy = dummyOf (c .extensions);
-    }
-
 -- ---- pictures of accepted files
 
 -- p is the picture of the file: that of the content whose file it is
@@ -242,5 +219,8 @@ unfoldable pub canonicalBuffer : (f out : List ℕ) → List ℕ
 canonicalBuffer f out = writtenBuffer (canonicalOutcome (length out) f) out
 
 -- the refusal numbers of canonicalizing: the reader's, and 20
+abbrev pub canonicalizingStatuses : List ℕ
+canonicalizingStatuses = 20 ∷ readingStatuses
+
 abbrev pub CanonicalizingStatus : ℕ → Type 0
-CanonicalizingStatus s = ReadingStatus s ⊎ (s ≡ 20)
+CanonicalizingStatus s = T (member s canonicalizingStatuses)

@@ -2,11 +2,11 @@
 use mathlib.Core.Bool.{Bool, true, false, not, _&&_, _||_}
 use mathlib.Core.List.{List, [], _∷_, _++_}
 use mathlib.Core.Path.{_≡_}
-use mathlib.Core.Logic.{_≢_}
 use Prim.Native.Nat.{ℕ, _+_, _-_, _^_, _≤_, _<_}
-use lib.Dec.{leb, ltb, eqb}
+use lib.Dec.{T, leb, ltb, eqb}
 use lib.ListN.{length, drop, getD}
 use Rattle.bpg_codec.specs.Select.{select}
+use Rattle.bpg_codec.specs.Lists.{member}
 use Rattle.bpg_codec.specs.Outcome.{Outcome, ok, error, _>>=_, guard}
 use Rattle.bpg_codec.specs.Lawful.{All}
 use Rattle.bpg_codec.specs.Bits.{allZero}
@@ -21,7 +21,8 @@ use Rattle.bpg_format.specs.Zero.{zeroEntry, zeroHeader, refusedWritten}
 use Rattle.bpg_format.specs.Content.{isEmpty, Extension, Loop, Content, hasAlpha, bitDepth}
 use Rattle.bpg_format.specs.Syntax.{fileOf}
 use Rattle.bpg_format.specs.Rules.{isLoop, hasLoop, noLoop, Rules}
-use Rattle.bpg_format.specs.FileCodec.{colorSpaceAllowed, loopNumbers, loopFrom, noForbiddenBit, hevcAllowed}
+use Rattle.bpg_format.specs.Tests.{colorSpaceAllowed, noForbiddenBit, hevcAllowed}
+use Rattle.bpg_format.specs.Read.{readLoop}
 use Rattle.bpg_format.specs.Records.{usedEntries, contentOf}
 
 -- ---- refusal 18: a range outside the source
@@ -96,7 +97,7 @@ atZero (error s o) = error s 0
 
 -- a tag 5 payload's own refusals, then 19 if the loop numbers differ
 unfoldable pub checkLoop : Loop → List ℕ → Outcome (Unit {0})
-checkLoop p l = atZero (loopNumbers .decode 0 0 l) >>= λ x. guard (sameLoop p (loopFrom (ok x))) 19 0
+checkLoop p l = atZero (readLoop 0 l) >>= λ x. guard (sameLoop p x) 19 0
 
 unfoldable pub checkEntries : Loop → (seen : Bool) → List Extension → Outcome (Unit {0})
 checkEntries p seen [] = ok tt
@@ -173,11 +174,11 @@ unfoldable pub writeBuffer : Record → (source out : List ℕ) → List ℕ
 writeBuffer r source out = writtenBuffer (writeOutcome (length out) r source) out
 
 -- the refusal numbers of writing: no other is given
-pub record WritingStatus (s : ℕ) : Type 0 where
-  pub least : 1 ≤ s
-  pub most : s ≤ 20
-  pub not-magic : s ≢ 3
-  pub not-length : s ≢ 10
+abbrev pub writingStatuses : List ℕ
+writingStatuses = 1 ∷ 2 ∷ 4 ∷ 5 ∷ 6 ∷ 7 ∷ 8 ∷ 9 ∷ 11 ∷ 12 ∷ 13 ∷ 14 ∷ 15 ∷ 16 ∷ 17 ∷ 18 ∷ 19 ∷ 20 ∷ []
+
+abbrev pub WritingStatus : ℕ → Type 0
+WritingStatus s = T (member s writingStatuses)
 
 -- ---- the records that are written
 

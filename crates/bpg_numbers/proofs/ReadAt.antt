@@ -3,7 +3,7 @@ use mathlib.Core.Path.{_≡_, sym, ap, _∙_}
 use mathlib.Core.List.{List}
 use Prim.Native.Nat.{ℕ}
 use lib.ListN.{drop}
-use Rattle.bpg_codec.specs.Outcome.{ok, error, located}
+use Rattle.bpg_codec.specs.Outcome.{ok, error, decoded, located}
 use Rattle.bpg_codec.specs.Codec.{Codec}
 use Rattle.bpg_codec.proofs.Positions.{Advances, whole}
 use Rattle.bpg_bytes.specs.declared.position.BytePos.{BytePos}
@@ -13,7 +13,7 @@ use Rattle.bpg_numbers.specs.Answers.{numberOutcome}
 
 module _ {c : Codec ℕ ℕ} (hc : Advances c) (region : List ℕ) (p : ℕ) (o : Number)
     (e : numberOutcome o ≡ located (c .decode p p (drop p region))) where
-  pub value-read : (v : ℕ) (q : BytePos) → o ≡ Value v q → c .decode p p (drop p region) ≡ ok (v, q .0, drop (q .0) region)
+  pub value-read : (v : ℕ) (q : BytePos) → o ≡ Value v q → c .decode p p (drop p region) ≡ ok (decoded v (q .0) (drop (q .0) region))
   value-read v q k = whole hc region p p (ok (v, q .0)) (ap numberOutcome (sym k) ∙ e)
 
   pub refusal-read : (s : ℕ) (q : BytePos) → o ≡ Refused s q → c .decode p p (drop p region) ≡ error s (q .0)

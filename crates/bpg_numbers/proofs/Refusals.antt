@@ -3,6 +3,7 @@ use mathlib.Core.Bool.{not}
 use mathlib.Core.List.{List, [], _∷_}
 use Prim.Native.Nat.{ℕ, _+_, _*_, _%_, _^_}
 use lib.Dec.{ltb, eqb}
+use Rattle.bpg_codec.specs.Outcome.{decoded}
 use Rattle.bpg_codec.proofs.Refusals.{Refuses, refuses-ok, refuses-error, refuses-guard, refuses-select, CodecRefuses}
 use Rattle.bpg_numbers.specs.Ue7.{ue7Rest, ue7Decode, ue7}
 
@@ -12,7 +13,7 @@ module _ (P : ℕ → ℕ → Type 0) (two : (o : ℕ) → P 2 o) (seven : (o : 
   rest-refuses [] n start v p = refuses-error P 2 start (two start)
   rest-refuses (b ∷ l) n start v p =
       refuses-guard P (ltb (v * 128 + b % 128) (2 ^ n)) 8 start _ (eight start)
-      (refuses-select P (ltb b 128) _ _ (refuses-ok P (v * 128 + b % 128, p + 1, l)) (rest-refuses l n start (v * 128 + b % 128) (p + 1)))
+      (refuses-select P (ltb b 128) _ _ (refuses-ok P (decoded (v * 128 + b % 128) (p + 1) l)) (rest-refuses l n start (v * 128 + b % 128) (p + 1)))
 
   decode-refuses : (n start : ℕ) (l : List ℕ) → Refuses P (ue7Decode n start l)
   unfolding ue7Decode

@@ -9,8 +9,8 @@ use native.Mathlib.Omega.{arith}
 use lib.Arith.{le-zero}
 use lib.ListN.{length, getD, length-append}
 use borrow.Author.Tests.{lt-ltb, le-ltb, eq-eqb, ne-eqb}
-use Rattle.bpg_codec.specs.Outcome.{ok, error}
-use Rattle.bpg_codec.specs.Lawful.{All, Byte, Lawful}
+use Rattle.bpg_codec.specs.Outcome.{ok, error, Decoded, decoded}
+use Rattle.bpg_codec.specs.Lawful.{All, Byte, Found, Lawful}
 use Rattle.bpg_codec.proofs.Select.{select-true, select-false}
 use Rattle.bpg_codec.proofs.Outcome.{error-not-ok, ok-injective}
 use Rattle.bpg_codec.proofs.Lists.{either-way}
@@ -29,7 +29,7 @@ module _ (n start v p : ℕ) where
     unfolding ue7Rest
     rest-large h = rw (le-ltb _ _ h)
 
-    pub rest-last : v * 128 + b % 128 < 2 ^ n → b < 128 → ue7Rest n start v p (b ∷ l) ≡ ok (v * 128 + b % 128, p + 1, l)
+    pub rest-last : v * 128 + b % 128 < 2 ^ n → b < 128 → ue7Rest n start v p (b ∷ l) ≡ ok (decoded (v * 128 + b % 128) (p + 1) l)
     unfolding ue7Rest
     rest-last h k = rw (lt-ltb _ _ h) (select-true _ _ (lt-ltb _ _ k))
 
@@ -180,7 +180,7 @@ first-byte v r e = by (v / 128) refl
     by zero z = omega (arith, rw (bytes-high v, z, high-zero) at e)
     by (suc w) z = omega (arith, rw (bytes-high v, z, append-assoc) at e, leads (suc w) (v % 128 ∷ r) (zero-lt-suc w))
 
-decodes : (n start v : ℕ) → v < 2 ^ n → (r : List ℕ) → ue7Decode n start (ue7Bytes v ++ r) ≡ ok (v, start + length (ue7Bytes v), r)
+decodes : (n start v : ℕ) → v < 2 ^ n → (r : List ℕ) → ue7Decode n start (ue7Bytes v ++ r) ≡ ok (decoded v (start + length (ue7Bytes v)) r)
 decodes n start v h r =
     let z : v / 128 * 128 + v % 128 % 128 ≡ v = omega arith in
     decode-rest n start (ue7Bytes v ++ r) (first-byte v r)
@@ -191,14 +191,14 @@ decodes n start v h r =
 -- ---- what was read is what is written
 
 module _ (n start : ℕ) where
-  abbrev Read : (v p : ℕ) → List ℕ → ℕ × ℕ × List ℕ → Type 0
-  Read v p l x = (x .0 < 2 ^ n) × (high v ++ l ≡ ue7Bytes (x .0) ++ x .2) × (x .1 + length (high v) ≡ p + length (ue7Bytes (x .0)))
+  abbrev Read : (v p : ℕ) → List ℕ → Decoded ℕ ℕ → Type 0
+  Read v p l x = (x .value < 2 ^ n) × (high v ++ l ≡ ue7Bytes (x .value) ++ x .rest) × (x .next + length (high v) ≡ p + length (ue7Bytes (x .value)))
 
   -- a byte that goes on is no first byte of 0x80
   abbrev Leads : ℕ → List ℕ → Type 0
   Leads v l = 128 ≤ getD l 0 0 → 0 < v * 128 + getD l 0 0 % 128
 
-  rest-read : (l : List ℕ) → All Byte l → (v p : ℕ) → Leads v l → (x : ℕ × ℕ × List ℕ) → ue7Rest n start v p l ≡ ok x → Read v p l x
+  rest-read : (l : List ℕ) → All Byte l → (v p : ℕ) → Leads v l → (x : Decoded ℕ ℕ) → ue7Rest n start v p l ≡ ok x → Read v p l x
   rest-read [] h v p k x e = absurd (error-not-ok (sym (rest-end n start v p) ∙ e))
   rest-read (b ∷ l) h v p k x e =
       either-way (2 ^ n) (v * 128 + b % 128)
@@ -222,22 +222,21 @@ module _ (n start : ℕ) where
             omega (arith, ih .2, ap length s, length-append (high v) (b ∷ [])),
           )
 
-encodes : (n start : ℕ) (l : List ℕ) → All Byte l → (a q : ℕ) (r : List ℕ) → ue7Decode n start l ≡ ok (a, q, r)
-    → (a < 2 ^ n) × (l ≡ ue7Bytes a ++ r) × (q ≡ start + length (ue7Bytes a))
-encodes n start [] h a q r e = absurd (error-not-ok (sym (decode-end n start) ∙ e))
-encodes n start (b ∷ l) h a q r e =
+encodes : (n start : ℕ) (l : List ℕ) → All Byte l → (x : Decoded ℕ ℕ) → ue7Decode n start l ≡ ok x → Found (ue7 n) start l x
+encodes n start [] h x e = absurd (error-not-ok (sym (decode-end n start) ∙ e))
+encodes n start (b ∷ l) h x e =
     elim (ℕ-discrete b 128) [
       | yes z ↦ absurd (error-not-ok (sym (decode-80 n start (b ∷ l) z) ∙ e))
-      | no z ↦ read z (rest-read n start (b ∷ l) h 0 start (λ k. omega arith) (a, q, r) (sym (decode-rest n start (b ∷ l) z) ∙ e))
+      | no z ↦ read z (rest-read n start (b ∷ l) h 0 start (λ k. omega arith) x (sym (decode-rest n start (b ∷ l) z) ∙ e))
     ]
   where
-    read : (b ≡ 128 → ⊥) → Read n start 0 start (b ∷ l) (a, q, r) → (a < 2 ^ n) × (b ∷ l ≡ ue7Bytes a ++ r) × (q ≡ start + length (ue7Bytes a))
-    read z x = (x .0, rw high-zero at (x .1), omega (arith, x .2, ap length high-zero))
+    read : (b ≡ 128 → ⊥) → Read n start 0 start (b ∷ l) x → Found (ue7 n) start (b ∷ l) x
+    read z s = (s .0, rw high-zero at (s .1), omega (arith, s .2, ap length high-zero))
 
 pub ue7-lawful : (n : ℕ) → Lawful Byte (ue7 n)
 ue7-lawful n =
     record {
       tokens = λ v h. bytes-ue7 v;
       decodes = λ v h i p r. decodes n p v h r;
-      encodes = λ i p l h a q r e. encodes n p l h a q r e;
+      encodes = λ i p l h x e. encodes n p l h x e;
     }

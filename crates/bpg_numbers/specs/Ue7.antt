@@ -4,7 +4,7 @@ use mathlib.Core.List.{List, [], _∷_, _++_}
 use Prim.Native.Nat.{ℕ, zero, suc, _+_, _*_, _/_, _%_, _^_, _<_}
 use lib.Dec.{ltb, eqb}
 use Rattle.bpg_codec.specs.Select.{select}
-use Rattle.bpg_codec.specs.Outcome.{Outcome, ok, error, _>>=_, guard}
+use Rattle.bpg_codec.specs.Outcome.{Outcome, ok, error, _>>=_, guard, Decoded, decoded}
 use Rattle.bpg_codec.specs.Codec.{Codec}
 
 -- the 7-bit groups of w, the high one first, each with its top bit set; 0 has no group. Each step leaves a smaller number, so `most` = w is
@@ -19,15 +19,15 @@ ue7Bytes v = groups (v / 128) (v / 128) ++ (v % 128 ∷ [])
 
 -- v is the value so far; the number began at `start`.
 -- No byte left in the region, refusal 2; the value so far above 2^n - 1, refusal 8.
-unfoldable pub ue7Rest : (n start v own : ℕ) → List ℕ → Outcome (ℕ × ℕ × List ℕ)
+unfoldable pub ue7Rest : (n start v own : ℕ) → List ℕ → Outcome (Decoded ℕ ℕ)
 ue7Rest n start v p [] = error 2 start
 ue7Rest n start v p (b ∷ l) =
     let w = v * 128 + b % 128 in
     let more = ue7Rest n start w (p + 1) l in
-    guard (ltb w (2 ^ n)) 8 start >>= λ _. select (ltb b 128) (ok (w, p + 1, l)) more
+    guard (ltb w (2 ^ n)) 8 start >>= λ _. select (ltb b 128) (ok (decoded w (p + 1) l)) more
 
 -- first byte 0x80, refusal 7
-unfoldable pub ue7Decode : (n start : ℕ) → List ℕ → Outcome (ℕ × ℕ × List ℕ)
+unfoldable pub ue7Decode : (n start : ℕ) → List ℕ → Outcome (Decoded ℕ ℕ)
 ue7Decode n start [] = error 2 start
 ue7Decode n start (b ∷ l) = guard (not (eqb b 128)) 7 start >>= λ _. ue7Rest n start 0 start (b ∷ l)
 

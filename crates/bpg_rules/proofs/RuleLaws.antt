@@ -8,7 +8,7 @@ use lib.Dec.{leb}
 use borrow.Author.Tests.{eq-eqb, ne-eqb, le-leb, lt-leb, lt-ltb, le-ltb}
 use Rattle.bpg_format.specs.declared.record.Header.{Header}
 use Rattle.bpg_format.specs.Rules.{minCbLog2SizeY, ctbLog2SizeY, minTbLog2SizeY, maxTbLog2SizeY, log2MinIpcmCbSizeY}
-use Rattle.bpg_format.specs.FileCodec.{rangeFlag, noForbiddenBit, pcmAllowed, hevcAllowed}
+use Rattle.bpg_format.specs.Tests.{rangeFlag, noForbiddenBit, pcmAllowed, hevcAllowed}
 
 -- ---- refusal 17
 

@@ -1,7 +1,7 @@
 // The rules that the fields of a HEVC header keep. A ue(v) field can be near 2^32, so sums are made in 64 bits.
 use bpg_format::Header;
 ghost use mathlib.Core.Path.{_≡_};
-ghost use Rattle.bpg_format.specs.FileCodec.{noForbiddenBit, pcmAllowed, hevcAllowed};
+ghost use Rattle.bpg_format.specs.Tests.{noForbiddenBit, pcmAllowed, hevcAllowed};
 
 // Refusal 17: the seven bits and four of the range flags are 0.
 pub fn no_forbidden_bit(h: Header) -> bool

@@ -7,7 +7,7 @@ use native.Mathlib.Omega.{arith}
 use lib.ListN.{drop}
 use lib.Pow.{pow-pos, pow-mono}
 use borrow.Author.Needs.{needs}
-use Rattle.bpg_codec.specs.Outcome.{Outcome, ok, error, _>>=_, located}
+use Rattle.bpg_codec.specs.Outcome.{Outcome, ok, error, _>>=_, decoded, located}
 use Rattle.bpg_codec.proofs.Outcome.{unlocate, located-map}
 use Rattle.bpg_codec.proofs.Tokens.{all-bits}
 use Rattle.bpg_bytes.specs.declared.position.BitPos.{BitPos}
@@ -53,7 +53,7 @@ module _ (z p : ℕ) (l : List Bool) (r : BitNumber) (h : Answers z p l r) where
     small : low < 2 ^ z
     small =
         unlocate (unsigned z .decode 0 p l) (sym (ap (bitOutcome 0) (sym e) ∙ h 0)) λ s k.
-        unsigned-lawful z .encodes 0 p l (all-bits l) low (next .0) s k .0
+        unsigned-lawful z .encodes 0 p l (all-bits l) (decoded low (next .0) s) k .0
 
 read-requires : tie.Need-read-requires
 read-requires c κs = search needs

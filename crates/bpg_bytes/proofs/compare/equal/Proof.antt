@@ -5,7 +5,7 @@ use mathlib.Core.List.{List}
 use native.Mathlib.Omega.{arith}
 use lib.ListN.{length, take}
 use lib.Seq.{take-all}
-use Rattle.bpg_codec.specs.Parts.{same}
+use Rattle.bpg_codec.specs.Lists.{same}
 use Rattle.bpg_bytes.proofs.CompareLaws.{one-more, not-as-long}
 use Rattle.bpg_bytes.proofs.compare.equal.Statement.{statement}
 use Rattle.bpg_bytes.proofs.compare.equal.Tie as tie

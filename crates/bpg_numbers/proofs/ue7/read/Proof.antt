@@ -7,7 +7,7 @@ use native.Mathlib.Omega.{arith}
 use lib.ListN.{length, drop, getD, drop-of-length-le}
 use lib.Pow.{pow-pos}
 use borrow.Author.Needs.{needs}
-use Rattle.bpg_codec.specs.Outcome.{Outcome, ok, error, located}
+use Rattle.bpg_codec.specs.Outcome.{Outcome, ok, error, Decoded, located}
 use Rattle.bpg_codec.proofs.Lists.{drop-next}
 use Rattle.bpg_numbers.specs.Ue7.{ue7Rest, ue7Decode}
 use Rattle.bpg_numbers.proofs.Ue7Laws.{rest-end, rest-large, rest-last, rest-more, decode-end, decode-80, decode-rest}
@@ -24,7 +24,7 @@ abbrev μ-loop : tie.MeasureT-loop
 -- ---- what each way out and each turn says of the definition
 
 module _ (n start : ℕ) (region : List ℕ) where
-  abbrev all : Outcome (ℕ × ℕ × List ℕ)
+  abbrev all : Outcome (Decoded ℕ ℕ)
   all = ue7Decode n start (drop start region)
 
   first : start < length region → getD (drop start region) 0 0 ≡ getD region start 0

@@ -6,7 +6,7 @@ use Prim.Native.Nat.{ℕ, min}
 use lib.ListN.{drop}
 use borrow.Author.Needs.{needs}
 use borrow.Author.Tests.{eq-eqb, ne-eqb}
-use Rattle.bpg_codec.specs.Outcome.{ok, error, located}
+use Rattle.bpg_codec.specs.Outcome.{ok, error, decoded, located}
 use Rattle.bpg_codec.specs.Codec.{atOwn}
 use Rattle.bpg_codec.specs.Parts.{guarded}
 use Rattle.bpg_numbers.specs.Ue7.{ue7, notZero}
@@ -20,12 +20,12 @@ module _ (region : List ℕ) (n status p : ℕ) where
   unfolding guarded
   refused s o e = rw e
 
-  zero : (v q : ℕ) → ue7 n .decode p p (drop p region) ≡ ok (v, q, drop q region) → v ≡ 0
+  zero : (v q : ℕ) → ue7 n .decode p p (drop p region) ≡ ok (decoded v q (drop q region)) → v ≡ 0
       → error status p ≡ located (guarded (ue7 n) notZero status atOwn .decode p p (drop p region))
   unfolding guarded
   zero v q e z = rw (e, eq-eqb v 0 z)
 
-  positive : (v q : ℕ) → ue7 n .decode p p (drop p region) ≡ ok (v, q, drop q region) → v ≢ 0
+  positive : (v q : ℕ) → ue7 n .decode p p (drop p region) ≡ ok (decoded v q (drop q region)) → v ≢ 0
       → ok (v, q) ≡ located (guarded (ue7 n) notZero status atOwn .decode p p (drop p region))
   unfolding guarded
   positive v q e z = rw (e, ne-eqb v 0 z)
@@ -56,7 +56,7 @@ module _ (c : tie.After-known-told2) where
   abbrev after : ℕ
   after = c .before .value .given .0 .1 .0 .0
 
-  value-is : ue7 width .decode at at (drop at region) ≡ ok (c .before .value .given .0 .0, after, drop after region)
+  value-is : ue7 width .decode at at (drop at region) ≡ ok (decoded (c .before .value .given .0 .0) after (drop after region))
   value-is = value-read (ue7-advances width) region at (r .read .result) (r .read .ensures) _ _ (c .before .value .given .1)
 
 returns : tie.Need-returns
