@@ -12,7 +12,9 @@ use Rattle.bpg_codec.specs.Codec.{atOwn}
 use Rattle.bpg_codec.proofs.Outcome.{ok-injective, unbind, bind-assoc}
 use Rattle.bpg_codec.proofs.Positions.{Advanced, Advances, advanced-then, guarded-advances}
 use Rattle.bpg_codec.proofs.Refusals.{Refuses, refuses-ok, refuses-bind, CodecRefuses, guarded-refuses}
+use Rattle.bpg_numbers.specs.declared.ue7.Number.{Number}
 use Rattle.bpg_numbers.specs.Ue7.{ue7, notZero}
+use Rattle.bpg_numbers.specs.Answers.{numberAnswer}
 use Rattle.bpg_numbers.proofs.Advances.{ue7-advances}
 use Rattle.bpg_numbers.proofs.Refusals.{ue7-refuses}
 use Rattle.bpg_format.specs.FileCodec.{dimension}
@@ -23,10 +25,10 @@ pub dimension-advances : Advances dimension
 unfolding dimension
 dimension-advances = guarded-advances (ue7-advances 32) notZero 9 atOwn
 
-pub as-dimension : (region : List ℕ) (p : ℕ) (o : Outcome (ℕ × ℕ)) → o ≡ located (guarded (ue7 32) notZero 9 atOwn .decode p p (drop p region))
-    → o ≡ located (dimension .decode p p (drop p region))
+pub as-dimension : (region : List ℕ) (p : ℕ) (r : Number) → r ≡ numberAnswer (located (guarded (ue7 32) notZero 9 atOwn .decode p p (drop p region)))
+    → r ≡ numberAnswer (located (dimension .decode p p (drop p region)))
 unfolding dimension
-as-dimension region p o e = e
+as-dimension region p r e = e
 
 -- ---- one after the other
 

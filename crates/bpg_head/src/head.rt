@@ -9,7 +9,7 @@ use bpg_numbers::ue7::Number;
 ghost use mathlib.Core.Path.{_≡_};
 ghost use lib.ListN.{drop};
 ghost use Rattle.bpg_codec.specs.Outcome.{located};
-ghost use Rattle.bpg_numbers.specs.Answers.{numberOutcome};
+ghost use Rattle.bpg_numbers.specs.Answers.{numberAnswer};
 ghost use Rattle.bpg_head.specs.FlagBytes.{flagFields};
 ghost use Rattle.bpg_head.specs.Heads.{readHead, readExtensionLength, afterSize, refusedHead, headAnswer};
 
@@ -61,7 +61,7 @@ fn refused(status: u8, offset: usize) -> Head
 
 // The extension length, or 0 where the flag says that there is none.
 fn read_extension_length(file: &[u8], at: BytePos, present: bool) -> Number
-    ensures { λ r. ⌜ numberOutcome r ≡ located (readExtensionLength present (at .0) (drop (at .0) (now (file .entry)))) ⌝ }
+    ensures { λ r. ⌜ r ≡ numberAnswer (located (readExtensionLength present (at .0) (drop (at .0) (now (file .entry))))) ⌝ }
 {
     if present {
         return ue7::read(file, at, 32);

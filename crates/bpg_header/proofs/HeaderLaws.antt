@@ -11,7 +11,6 @@ use borrow.Author.Tests.{le-leb, lt-leb}
 use Rattle.bpg_codec.specs.Outcome.{Outcome, ok, error, _>>=_, guard}
 use Rattle.bpg_codec.specs.Codec.{decodeAt}
 use Rattle.bpg_codec.specs.Bits.{isPadding, unpack}
-use Rattle.bpg_codec.proofs.Select.{select-true, select-false}
 use Rattle.bpg_codec.proofs.Outcome.{error-not-ok}
 use Rattle.bpg_codec.proofs.Lists.{take-drop, either-way}
 use Rattle.bpg_codec.proofs.Bits.{unpack-drop}
@@ -26,9 +25,9 @@ use Rattle.bpg_format.specs.FileCodec.{noForbiddenBit, hevcAllowed, headerField
 use Rattle.bpg_format.specs.Read.{readFields, readHeader}
 use Rattle.bpg_format.proofs.Chain.{fields-chain}
 use Rattle.bpg_fields.specs.declared.all_fields.Fields.{Fields}
-use Rattle.bpg_fields.specs.AllFields.{fieldsOutcome}
+use Rattle.bpg_fields.specs.AllFields.{fieldsAnswer}
 use Rattle.bpg_header.specs.Headers.{refusedHeader, headerAnswer, fieldsIn, headerIn}
-use Rattle.bpg_fields.proofs.AllFieldLaws.{fields-advance}
+use Rattle.bpg_fields.proofs.AllFieldLaws.{fields-advance, fields-missing, fields-found}
 
 -- a region that is no longer than a file is read to its end
 all-bits : (region : List ℕ) → length region ≤ maxFile → regionBits region ≡ unpack region
@@ -37,20 +36,21 @@ all-bits region short = ap unpack (take-all (2 ^ 60) region (omega arith))
 -- ---- the fields take up the region
 
 module _ (region : List ℕ) (depth p start : ℕ) (short : length region ≤ maxFile) (r : Fields)
-    (e : (i : ℕ) → fieldsOutcome i r ≡ decodeAt (regionBits region) headerFields i (8 * start)) where
-  fields-are : readFields p (8 * start) (unpack (drop start region)) ≡ (fieldsOutcome p r >>= λ x. ok (x .0, x .1, drop (x .1) (regionBits region)))
-  fields-are =
+    (e : r ≡ fieldsAnswer (decodeAt (regionBits region) headerFields 0 (8 * start))) where
+  fields-are : (o : Outcome (Header × ℕ)) → decodeAt (regionBits region) headerFields p (8 * start) ≡ o
+      → readFields p (8 * start) (unpack (drop start region)) ≡ (o >>= λ x. ok (x .0, x .1, drop (x .1) (regionBits region)))
+  fields-are o k =
       sym (fields-chain p (8 * start) (unpack (drop start region)))
       ∙ ap (headerFields .decode p (8 * start)) (unpack-drop start region ∙ ap (drop (8 * start)) (sym (all-bits region short)))
-      ∙ whole fields-advance (regionBits region) p (8 * start) (fieldsOutcome p r) (e p)
+      ∙ whole fields-advance (regionBits region) p (8 * start) o (sym k)
 
   pub field-missing : r .found ≡ false → refusedHeader 15 p ≡ headerAnswer (fieldsIn region depth p start)
   unfolding fieldsIn
-  field-missing f = rw (fields-are, select-false {X = Outcome (Header × ℕ)} {b = r .found} (ok (r .header, r .next .0)) (error 15 p) f)
+  field-missing f = rw (fields-are (error 15 p) (fields-missing (regionBits region) (8 * start) r e p f))
 
   module _ (f : r .found ≡ true) where
     found : readFields p (8 * start) (unpack (drop start region)) ≡ ok (r .header, r .next .0, drop (r .next .0) (regionBits region))
-    found = fields-are ∙ rw (select-true {X = Outcome (Header × ℕ)} {b = r .found} (ok (r .header, r .next .0)) (error 15 p) f)
+    found = fields-are (ok (r .header, r .next .0)) (fields-found (regionBits region) (8 * start) r e p f)
 
     pub not-padded : isPadding (drop (r .next .0) (regionBits region)) ≡ false → refusedHeader 15 p ≡ headerAnswer (fieldsIn region depth p start)
     unfolding fieldsIn

@@ -1,7 +1,7 @@
 // A HEVC header in its file: a length in bytes, and then the fields in bits.
 use crate::trailing;
-use bpg_bytes::BitPos;
 use bpg_bytes::BytePos;
+use bpg_bytes::first_bit;
 use bpg_fields::all_fields;
 use bpg_format::Header;
 use bpg_format::MAX_FILE;
@@ -41,7 +41,7 @@ fn with_size(region: &[u8], at: usize, start: usize, depth: u8) -> HeaderReading
     requires { ⌜ start ≤ count (now region) ⌝ }
     ensures { λ r. ⌜ r ≡ headerAnswer (fieldsIn (now (region .entry)) depth at start) ⌝ }
 {
-    let fields = all_fields::read(region, BitPos(8 * start));
+    let fields = all_fields::read(region, first_bit(BytePos(start)));
     if !fields.found {
         return refused(15, at);
     }

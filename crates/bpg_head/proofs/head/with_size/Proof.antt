@@ -1,14 +1,13 @@
 -- `head::with_size` meets its contract: the extension length stands after the data length, and a refusal is passed on. Assumes nothing.
-use mathlib.Core.Path.{_≡_, sym, ap, _∙_}
+use mathlib.Core.Path.{_≡_, _∙_}
 use mathlib.Core.List.{List}
 use Prim.Native.Nat.{ℕ}
 use lib.ListN.{drop}
 use borrow.Author.Needs.{needs}
 use Rattle.bpg_codec.specs.Outcome.{ok, error}
-use Rattle.bpg_numbers.specs.Answers.{numberOutcome}
 use Rattle.bpg_numbers.specs.Ue7.{ue7}
 use Rattle.bpg_numbers.proofs.Advances.{ue7-advances}
-use Rattle.bpg_numbers.proofs.ReadAt.{value-read, refusal-read}
+use Rattle.bpg_numbers.proofs.ReadAt.{value-outcome, refusal-outcome, value-read, refusal-read}
 use Rattle.bpg_head.specs.declared.size.Size.{Size}
 use Rattle.bpg_head.specs.FlagBytes.{flagFields}
 use Rattle.bpg_head.proofs.HeadSteps.{length-refused, length-read}
@@ -68,14 +67,14 @@ returns-2 c =
     let n = r .before in
     c .refused2 .ensures
     ∙ length-read (file n) (flagFields (start n .args .flags)) (size n .width) (size n .height) (size n .next) _ (after n) (length-is n) (error _ _)
-    (ap numberOutcome (sym (c .before .before .status2 .given .1)) ∙ r .read-extension-length .ensures)
+    (refusal-outcome (r .read-extension-length .result) (r .read-extension-length .ensures) _ _ (c .before .before .status2 .given .1))
 
 returns-3 : tie.Need-returns-3
 returns-3 c =
     let r = c .before .before .before in
     let n = r .before in
     length-read (file n) (flagFields (start n .args .flags)) (size n .width) (size n .height) (size n .next) _ (after n) (length-is n) (ok (_, _))
-    (ap numberOutcome (sym (c .before .extension .given .1)) ∙ r .read-extension-length .ensures)
+    (value-outcome (r .read-extension-length .result) (r .read-extension-length .ensures) _ _ (c .before .extension .given .1))
 
 pub with-size-spec : {M : Type 1} → statement M
 with-size-spec =
