@@ -13,6 +13,7 @@ use Rattle.bpg_numbers.specs.declared.ue7.Number.{Number}
 use Rattle.bpg_numbers.specs.Ue7.{ue7, notZero}
 use Rattle.bpg_numbers.specs.Answers.{numberAnswer}
 use Rattle.bpg_numbers.proofs.Advances.{ue7-advances, ue7-limit}
+use Rattle.bpg_bytes.specs.Positions.{bytePos}
 use Rattle.bpg_format.specs.FileCodec.{period, loopNumbers}
 use Rattle.bpg_entries.specs.declared.animation.Animation.{Animation}
 use Rattle.bpg_entries.specs.Animations.{refusedAnimation, animationAnswer}
@@ -61,5 +62,5 @@ module _ (region : List ℕ) (p : ℕ) where
       den-refused s o e = rw (as-chain, c, n, e)
 
       pub all-read : (den t : ℕ) → period .decode r r (drop r region) ≡ ok (den, t, drop t region)
-          → record { status = 0; offset = 0; «loop_count» = count; «frame_period_num» = num; «frame_period_den» = den } ≡ answer region p
+          → record { status = 0; offset = bytePos 0; «loop_count» = count; «frame_period_num» = num; «frame_period_den» = den } ≡ answer region p
       all-read den t e = rw (as-chain, c, n, e)

@@ -19,6 +19,7 @@ use Rattle.bpg_numbers.specs.Ue7.{ue7}
 use Rattle.bpg_bits.specs.BitNumbers.{regionBits}
 use Rattle.bpg_numbers.proofs.Ue7Laws.{decode-end}
 use Rattle.bpg_numbers.proofs.Advances.{ue7-advances}
+use Rattle.bpg_bytes.specs.Positions.{bytePos}
 use Rattle.bpg_format.specs.Limits.{maxFile}
 use Rattle.bpg_format.specs.declared.record.Header.{Header}
 use Rattle.bpg_format.specs.FileCodec.{noForbiddenBit, hevcAllowed, headerFields}
@@ -67,7 +68,7 @@ module _ (region : List ℕ) (depth p start : ℕ) (short : length region ≤ ma
         rule-broken a = rw (found, padded, none, a)
 
         pub header-read : hevcAllowed depth (r .header) ≡ true
-            → record { status = 0; offset = 0; header = r .header; next = length region } ≡ headerAnswer (fieldsIn region depth p start)
+            → record { status = 0; offset = bytePos 0; header = r .header; next = bytePos (length region) } ≡ headerAnswer (fieldsIn region depth p start)
         unfolding fieldsIn
         header-read a = rw (found, padded, none, a)
 

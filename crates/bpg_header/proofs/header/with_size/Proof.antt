@@ -23,9 +23,9 @@ module _ (c : tie.After-read) where
   short : length (entered .args .region .now) ≤ maxFile
   short = entered .pre .0
 
-  fields-are : c .read .result ≡ fieldsAnswer (decodeAt (regionBits (entered .args .region .now)) headerFields 0 (8 * entered .args .start))
+  fields-are : c .read .result ≡ fieldsAnswer (decodeAt (regionBits (entered .args .region .now)) headerFields 0 (8 * entered .args .start .0))
   fields-are =
-      let e : 8 * min (entered .args .start) (2 ^ 60) ≡ 8 * entered .args .start = omega (arith, short, entered .pre .1) in
+      let e : 8 * min (entered .args .start .0) (2 ^ 60) ≡ 8 * entered .args .start .0 = omega (arith, short, entered .pre .1) in
       c .read .ensures ∙ ap (λ (n : ℕ). fieldsAnswer (decodeAt (regionBits (entered .args .region .now)) headerFields 0 n)) (c .before .first-bit .ensures ∙ e)
 
 -- the fields were read and padded
