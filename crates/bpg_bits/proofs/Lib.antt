@@ -2,3 +2,4 @@
 pub mod BitNumberLaws
 pub mod Refusals
 pub mod Advances
+pub mod Items

@@ -1,6 +1,7 @@
--- Document 01's number and values for each case of the answer.
+-- Document 01's number and values for each case of the answer, and the answer for them.
 use Prim.Native.Nat.{ℕ}
 use Rattle.bpg_codec.specs.Outcome.{Outcome, ok, error}
+use Rattle.bpg_bytes.specs.Positions.{bitPos}
 use Rattle.bpg_bits.specs.declared.bits.BitNumber.{BitNumber}
 use Rattle.bpg_bits.specs.declared.bits.BitNumber.the-variants.{Value, Missing}
 
@@ -8,3 +9,8 @@ use Rattle.bpg_bits.specs.declared.bits.BitNumber.the-variants.{Value, M
 abbrev pub bitOutcome : (item : ℕ) → BitNumber → Outcome (ℕ × ℕ)
 bitOutcome i (Value v p) = ok (v, p .0)
 bitOutcome i Missing = error 15 i
+
+-- a refusal's place is the caller's to say: whatever the item, the answer is the same
+abbrev pub bitAnswer : Outcome (ℕ × ℕ) → BitNumber
+bitAnswer (ok x) = Value (x .0) (bitPos (x .1))
+bitAnswer (error s o) = Missing

@@ -3,14 +3,15 @@ use bpg_bytes::BitPos;
 use bpg_bytes::arithmetic::least;
 use bpg_bytes::arithmetic::remaining;
 use bpg_bytes::arithmetic::wide;
+use bpg_bytes::byte_of;
 ghost use mathlib.Core.Path.{_≡_};
 ghost use mathlib.Core.Bool.{false};
-ghost use Prim.Native.Nat.{ℕ, min, _*_, _<_};
-ghost use lib.ListN.{length, drop, getD};
-ghost use Rattle.bpg_codec.specs.Outcome.{located};
+ghost use Prim.Native.Nat.{min, _*_, _<_};
+ghost use lib.ListN.{length, getD};
+ghost use Rattle.bpg_codec.specs.Codec.{decodeAt};
 ghost use Rattle.bpg_codec.specs.Bits.{bit as bitOf, unpack};
 ghost use Rattle.bpg_bits.specs.BitNumbers.{regionBits, unsigned};
-ghost use Rattle.bpg_bits.specs.Answers.{bitOutcome};
+ghost use Rattle.bpg_bits.specs.Answers.{bitAnswer};
 
 // A number and the position after it, or that the region does not hold one (for ue(v): also that z is above 31).
 pub enum BitNumber {
@@ -25,17 +26,18 @@ pub fn count(region: &[u8]) -> usize
     8 * least(region.len(), 0x1000_0000_0000_0000)
 }
 
-// Bit k of the bytes as a number.
-pub(crate) fn bit_inside(region: &[u8], k: usize) -> u64
-    requires { ⌜ k < 8 * length (now region) ⌝ }
-    ensures { λ r. ⌜ r ≡ bitOf (getD (unpack (now (region .entry))) k false) ⌝ }
+// The bit at `at` as a number.
+pub(crate) fn bit_inside(region: &[u8], at: BitPos) -> u64
+    requires { ⌜ at .0 < 8 * length (now region) ⌝ }
+    ensures { λ r. ⌜ r ≡ bitOf (getD (unpack (now (region .entry))) (at .0) false) ⌝ }
 {
-    (wide(region[k / 8]) >> (7 - k % 8)) % 2
+    let byte = byte_of(at).0;
+    (wide(region[byte]) >> (7 - at.0 % 8)) % 2
 }
 
-// The next n bits as a number; n above 32 counts as 32.
+// The next n bits as a number; n above 32 counts as 32. The answer is the same for each item that they may stand in: here it is 0.
 pub fn read(region: &[u8], at: BitPos, n: u32) -> BitNumber
-    ensures { λ r. ⌜ ((i : ℕ) → bitOutcome i r ≡ located (unsigned (min n 32) .decode i (at .0) (drop (at .0) (regionBits (now (region .entry)))))) ⌝ }
+    ensures { λ r. ⌜ r ≡ bitAnswer (decodeAt (regionBits (now (region .entry))) (unsigned (min n 32)) 0 (at .0)) ⌝ }
 {
     let start = at.0;
     let width = least(n as usize, 32);
@@ -46,7 +48,7 @@ pub fn read(region: &[u8], at: BitPos, n: u32) -> BitNumber
     let mut value: u64 = 0;
     let mut next = start;
     while next < past {
-        value = value * 2 + bit_inside(region, next);
+        value = value * 2 + bit_inside(region, BitPos(next));
         next += 1;
     }
     BitNumber::Value(value as u32, BitPos(past))

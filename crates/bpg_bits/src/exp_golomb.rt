@@ -4,16 +4,17 @@ use crate::bits;
 use crate::bits::BitNumber;
 use bpg_bytes::BitPos;
 ghost use mathlib.Core.Path.{_≡_};
-ghost use Prim.Native.Nat.{ℕ, _<_};
+ghost use Prim.Native.Nat.{_<_};
 ghost use lib.ListN.{length, drop};
 ghost use Rattle.bpg_codec.specs.Outcome.{located};
+ghost use Rattle.bpg_codec.specs.Codec.{decodeAt};
 ghost use Rattle.bpg_bits.specs.BitNumbers.{regionBits, expGolomb, expGolombSuffix};
-ghost use Rattle.bpg_bits.specs.Answers.{bitOutcome};
+ghost use Rattle.bpg_bits.specs.Answers.{bitAnswer};
 
 // The z bits after the one, and the value that they make.
 fn suffix(region: &[u8], at: BitPos, z: u32) -> BitNumber
     requires { ⌜ z < 32 ⌝ }
-    ensures { λ r. ⌜ ((i : ℕ) → bitOutcome i r ≡ located (expGolombSuffix i z (at .0) (drop (at .0) (regionBits (now (region .entry)))))) ⌝ }
+    ensures { λ r. ⌜ r ≡ bitAnswer (located (expGolombSuffix 0 z (at .0) (drop (at .0) (regionBits (now (region .entry)))))) ⌝ }
 {
     match bits::read(region, at, z) {
         BitNumber::Missing => BitNumber::Missing,
@@ -21,16 +22,16 @@ fn suffix(region: &[u8], at: BitPos, z: u32) -> BitNumber
     }
 }
 
-// The number at `at`, bit by bit: it is for rare codes and long ones. The block sizes, which every header has, are read
+// The number at `at`, for any item, bit by bit: it is for rare codes and long ones. The block sizes, which every header has, are read
 // from a word where their codes are short.
 pub fn read(region: &[u8], at: BitPos) -> BitNumber
-    ensures { λ r. ⌜ ((i : ℕ) → bitOutcome i r ≡ located (expGolomb .decode i (at .0) (drop (at .0) (regionBits (now (region .entry)))))) ⌝ }
+    ensures { λ r. ⌜ r ≡ bitAnswer (decodeAt (regionBits (now (region .entry))) expGolomb 0 (at .0)) ⌝ }
 {
     let end = bits::count(region);
     let mut z: u32 = 0;
     let mut next = at.0;
     while next < end {
-        if bits::bit_inside(region, next) == 1 {
+        if bits::bit_inside(region, BitPos(next)) == 1 {
             return suffix(region, BitPos(next + 1), z);
         }
         if z == 31 {

@@ -1,5 +1,6 @@
 // Refusal 19: the presence flags of a record fit its fields.
 use crate::entries;
+use bpg_bytes::BytePos;
 use bpg_entries::animation;
 use bpg_format::Record;
 use bpg_format::has_alpha;
@@ -34,7 +35,7 @@ fn loop_fits(record: Record) -> bool
     if entries::has_control(record) {
         return true;
     }
-    let none = animation::refused(0, 0);
+    let none = animation::refused(0, BytePos(0));
     entries::same_loop(record, none)
 }
 

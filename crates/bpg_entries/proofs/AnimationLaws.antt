@@ -3,14 +3,17 @@ use mathlib.Core.Path.{_≡_, _∙_}
 use mathlib.Core.List.{List}
 use Prim.Native.Nat.{ℕ, _^_, _<_}
 use lib.ListN.{drop}
-use Rattle.bpg_codec.specs.Outcome.{Outcome, ok, error, _>>=_, located}
+use Rattle.bpg_codec.specs.Outcome.{ok, error, _>>=_, located}
 use Rattle.bpg_codec.specs.Parts.{guarded}
 use Rattle.bpg_codec.specs.Regions.{thenRest, rest}
 use Rattle.bpg_codec.specs.Codec.{atOwn}
 use Rattle.bpg_codec.proofs.Outcome.{unbind, unguard, bind-assoc}
 use Rattle.bpg_codec.proofs.Positions.{Advances, guarded-advances}
+use Rattle.bpg_numbers.specs.declared.ue7.Number.{Number}
 use Rattle.bpg_numbers.specs.Ue7.{ue7, notZero}
+use Rattle.bpg_numbers.specs.Answers.{numberAnswer}
 use Rattle.bpg_numbers.proofs.Advances.{ue7-advances, ue7-limit}
+use Rattle.bpg_bytes.specs.Positions.{bytePos}
 use Rattle.bpg_format.specs.FileCodec.{period, loopNumbers}
 use Rattle.bpg_entries.specs.declared.animation.Animation.{Animation}
 use Rattle.bpg_entries.specs.Animations.{refusedAnimation, animationAnswer}
@@ -20,9 +23,10 @@ unfolding period
 period-advances = guarded-advances (ue7-advances 16) notZero 12 atOwn
 
 module _ (region : List ℕ) (p : ℕ) where
-  pub as-period : (o : Outcome (ℕ × ℕ)) → o ≡ located (guarded (ue7 16) notZero 12 atOwn .decode p p (drop p region)) → o ≡ located (period .decode p p (drop p region))
+  pub as-period : (r : Number) → r ≡ numberAnswer (located (guarded (ue7 16) notZero 12 atOwn .decode p p (drop p region)))
+      → r ≡ numberAnswer (located (period .decode p p (drop p region)))
   unfolding period
-  as-period o e = e
+  as-period r e = e
 
   pub period-limit : (v q : ℕ) → period .decode p p (drop p region) ≡ ok (v, q, drop q region) → v < 2 ^ 16
   unfolding period guarded
@@ -58,5 +62,5 @@ module _ (region : List ℕ) (p : ℕ) where
       den-refused s o e = rw (as-chain, c, n, e)
 
       pub all-read : (den t : ℕ) → period .decode r r (drop r region) ≡ ok (den, t, drop t region)
-          → record { status = 0; offset = 0; «loop_count» = count; «frame_period_num» = num; «frame_period_den» = den } ≡ answer region p
+          → record { status = 0; offset = bytePos 0; «loop_count» = count; «frame_period_num» = num; «frame_period_den» = den } ≡ answer region p
       all-read den t e = rw (as-chain, c, n, e)

@@ -148,13 +148,13 @@ module _ (region : List ℕ) (p : ℕ) (block : Block) (next : ℕ) (inv : Readi
         size-new = length-take-le size (drop start region) (omega (arith, s .next, s .inside, length-drop start region))
 
         -- it is as long as its bytes
-        next-new : t .next ≡ next + length (extensionBytes new)
+        next-new : t .next .0 ≡ next + length (extensionBytes new)
         next-new =
-            extension-lawful (block .animated) .encodes next next (drop next region) (all-drop Byte next region bytes) new (t .next) (drop (t .next) region)
+            extension-lawful (block .animated) .encodes next next (drop next region) (all-drop Byte next region bytes) new (t .next .0) (drop (t .next .0) region)
             (entry-chain (block .animated) next (drop next region) ∙ d) .2
             ∙ ap (λ (l : List ℕ). next + length l) (extension-encode (block .animated) new)
 
-        at-new : t .next ≡ p + length (blockBytes (inv .done ++ (new ∷ [])))
+        at-new : t .next .0 ≡ p + length (blockBytes (inv .done ++ (new ∷ [])))
         at-new = omega (arith, next-new, inv .at, bytes-snoc new (inv .done))
 
         entry-new : t .entry ∷ [] ≡ entriesAt (p + length (blockBytes (inv .done))) (new ∷ [])
@@ -164,7 +164,7 @@ module _ (region : List ℕ) (p : ℕ) (block : Block) (next : ℕ) (inv : Readi
             ap₂ (λ (k m : ℕ). record { tag = new .tag; payload = range k m } ∷ []) n (sym size-new)
 
         rest-new : all
-            ≡ (readEntries (maxEntries - length (inv .done ++ (new ∷ []))) (hasLoop (inv .done ++ (new ∷ []))) (t .next) (drop (t .next) region) >>= λ es.
+            ≡ (readEntries (maxEntries - length (inv .done ++ (new ∷ []))) (hasLoop (inv .done ++ (new ∷ []))) (t .next .0) (drop (t .next .0) region) >>= λ es.
             ok ((inv .done ++ (new ∷ [])) ++ es))
         unfolding after
         rest-new =
@@ -195,18 +195,18 @@ module _ (region : List ℕ) (p : ℕ) (block : Block) (next : ℕ) (inv : Readi
                 animation = said z;
               }
 
-          read-on : Reading region p (addedBlock block t animated animation) (t .next)
+          read-on : Reading region p (addedBlock block t animated animation) (t .next .0)
           read-on =
               record { done = inv .done ++ (new ∷ []); is = added-new; few = omega (arith, count, count-new); at = at-new; rest = rest-new }
 
         -- an entry with tag 5 says what is known of the animation; no other does
-        pub goes-on : t .entry .tag ≢ 5 → Reading region p (addedBlock block t (block .animated) (block .animation)) (t .next)
+        pub goes-on : t .entry .tag ≢ 5 → Reading region p (addedBlock block t (block .animated) (block .animation)) (t .next .0)
         goes-on n =
             let plain = ne-eqb (t .entry .tag) 5 n in
             read-on (block .animated) (block .animation) (rw (has-snoc new (inv .done), plain, or-false) seen)
             (rw (loop-snoc new (inv .done) (λ l. absurd (n (eqb-true (t .entry .tag) 5 l))), plain, select-false) (ap (λ (b : Block). b .animation) (inv .is)))
 
-        pub animates : t .entry .tag ≡ 5 → block .animated ≡ false → (a : Animation) → a ≡ loopAnswer (loopIn (new .payload)) → Reading region p (addedBlock block t true a) (t .next)
+        pub animates : t .entry .tag ≡ 5 → block .animated ≡ false → (a : Animation) → a ≡ loopAnswer (loopIn (new .payload)) → Reading region p (addedBlock block t true a) (t .next .0)
         animates e first a k =
             let control = eq-eqb (t .entry .tag) 5 e in
             read-on true a (rw (has-snoc new (inv .done), control, or-true)) (rw (loop-snoc new (inv .done) (λ _. sym seen ∙ first), control, select-true) k)

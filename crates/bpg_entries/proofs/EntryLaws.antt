@@ -74,12 +74,12 @@ module _ (seen : Bool) (p start : ℕ) (l : List ℕ) where
   control-steps = rw (← loop-chain start start l, bind-assoc)
 
   module _ (a : Animation) (k : a ≡ animationAnswer (animationControl seen p start l)) where
-    control-refused : a .status ≢ 0 → looped ≡ error (a .status) (a .offset)
+    control-refused : a .status ≢ 0 → looped ≡ error (a .status) (a .offset .0)
     control-refused n = control-steps ∙ by (animationControl seen p start l) k
       where
-        by : (m : Outcome (ℕ × (ℕ × (ℕ × List ℕ)))) → a ≡ animationAnswer m → (m >>= λ _. ok l) ≡ error (a .status) (a .offset)
+        by : (m : Outcome (ℕ × (ℕ × (ℕ × List ℕ)))) → a ≡ animationAnswer m → (m >>= λ _. ok l) ≡ error (a .status) (a .offset .0)
         by (ok x) k = absurd (n (ap (λ (y : Animation). y .status) k))
-        by (error t o) k = ap (λ (y : Animation). error (y .status) (y .offset)) (sym k)
+        by (error t o) k = ap (λ (y : Animation). error (y .status) (y .offset .0)) (sym k)
 
     control-read : All Byte l → a .status ≡ 0 → (looped ≡ ok l) × (seen ≡ false) × (a ≡ loopAnswer (loopIn l))
     control-read b z = by seen (loopNumbers .decode start start l) refl control-steps k
@@ -115,13 +115,13 @@ abbrev payloadOf : List ℕ → Step → List ℕ
 payloadOf region t = take (t .entry .payload .length) (drop (t .entry .payload .start) region)
 
 abbrev pub entryOf : List ℕ → Step → Extension × ℕ × List ℕ
-entryOf region t = (record { tag = t .entry .tag; payload = payloadOf region t }, t .next, drop (t .next) region)
+entryOf region t = (record { tag = t .entry .tag; payload = payloadOf region t }, t .next .0, drop (t .next .0) region)
 
 -- it lies in the region
 pub record Started (region : List ℕ) (p : ℕ) (t : Step) : Type 0 where
   pub is : entryStart p (drop p region) ≡ ok (t .entry .tag, t .entry .payload .length, t .entry .payload .start, drop (t .entry .payload .start) region)
-  pub next : t .next ≡ t .entry .payload .start + t .entry .payload .length
-  pub inside : t .next ≤ length region
+  pub next : t .next .0 ≡ t .entry .payload .start + t .entry .payload .length
+  pub inside : t .next .0 ≤ length region
 
 start-inside : (region : List ℕ) (p : ℕ) (x : ℕ × ℕ × ℕ × List ℕ) → p ≤ length region → entryStart p (drop p region) ≡ ok x
     → (x .3 ≡ drop (x .2) region) × (x .2 + x .1 ≤ length region)
@@ -144,12 +144,12 @@ module _ (region : List ℕ) (seen : Bool) (p : ℕ) where
   step = entryStart p (drop p region)
 
   module _ (t : Step) (e : t ≡ stepAnswer step) where
-    pub step-refused : t .status ≢ 0 → entry ≡ error (t .status) (t .offset)
+    pub step-refused : t .status ≢ 0 → entry ≡ error (t .status) (t .offset .0)
     step-refused n = entry-steps seen p (drop p region) ∙ by step e
       where
-        by : (m : Outcome (ℕ × ℕ × ℕ × List ℕ)) → t ≡ stepAnswer m → (m >>= entered seen p) ≡ error (t .status) (t .offset)
+        by : (m : Outcome (ℕ × ℕ × ℕ × List ℕ)) → t ≡ stepAnswer m → (m >>= entered seen p) ≡ error (t .status) (t .offset .0)
         by (ok x) e = absurd (n (ap (λ (y : Step). y .status) e))
-        by (error s o) e = ap (λ (y : Step). error (y .status) (y .offset)) (sym e)
+        by (error s o) e = ap (λ (y : Step). error (y .status) (y .offset .0)) (sym e)
 
     pub step-started : p ≤ length region → t .status ≡ 0 → Started region p t
     step-started h z = by step refl e
@@ -174,18 +174,18 @@ module _ (region : List ℕ) (seen : Bool) (p : ℕ) where
     bytes = payloadOf region t
 
     entry-is : entry
-        ≡ (select (eqb (t .entry .tag) 5) (looped seen p start bytes) (ok bytes) >>= λ l. ok (record { tag = t .entry .tag; payload = l }, t .next, drop (t .next) region))
+        ≡ (select (eqb (t .entry .tag) 5) (looped seen p start bytes) (ok bytes) >>= λ l. ok (record { tag = t .entry .tag; payload = l }, t .next .0, drop (t .next .0) region))
     entry-is = rw (entry-steps seen p (drop p region), s .is, drop-drop, s .next)
 
     pub plain-read : t .entry .tag ≢ 5 → entry ≡ ok (entryOf region t)
     plain-read n = entry-is ∙ rw (ne-eqb (t .entry .tag) 5 n, select-false)
 
     -- with tag 5, by what is read in the region up to the payload's end
-    module _ (e : t .entry .tag ≡ 5) (a : Animation) (k : a ≡ animationAnswer (animationControl seen p start (drop start (take (t .next) region)))) where
+    module _ (e : t .entry .tag ≡ 5) (a : Animation) (k : a ≡ animationAnswer (animationControl seen p start (drop start (take (t .next .0) region)))) where
       answers : a ≡ animationAnswer (animationControl seen p start bytes)
       answers = k ∙ rw (s .next, ← take-drop (t .entry .payload .length) start region)
 
-      pub numbers-refused : a .status ≢ 0 → entry ≡ error (a .status) (a .offset)
+      pub numbers-refused : a .status ≢ 0 → entry ≡ error (a .status) (a .offset .0)
       numbers-refused n = entry-is ∙ rw (eq-eqb (t .entry .tag) 5 e, select-true, control-refused seen p start bytes a answers n)
 
       pub numbers-read : All Byte region → a .status ≡ 0 → (entry ≡ ok (entryOf region t)) × (seen ≡ false) × (a ≡ loopAnswer (loopIn bytes))

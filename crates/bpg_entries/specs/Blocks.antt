@@ -5,6 +5,7 @@ use Prim.Native.Nat.{ℕ}
 use lib.Dec.{leb}
 use lib.ListN.{length, drop, replicate}
 use Rattle.bpg_codec.specs.Outcome.{Outcome, ok, error, _>>=_, guard}
+use Rattle.bpg_bytes.specs.Positions.{bytePos}
 use Rattle.bpg_format.specs.Limits.{maxEntries, maxFile}
 use Rattle.bpg_format.specs.Zero.{zeroEntry}
 use Rattle.bpg_format.specs.Content.{Extension}
@@ -19,7 +20,7 @@ abbrev pub refusedBlock : (status offset : ℕ) → Block
 refusedBlock s o =
     record {
       status = s;
-      offset = o;
+      offset = bytePos o;
       «entry_count» = 0;
       entries = replicate maxEntries zeroEntry;
       animated = false;
@@ -31,7 +32,7 @@ abbrev pub blockAnswer : (p : ℕ) → Outcome (List Extension) → Block
 blockAnswer p (ok es) =
     record {
       status = 0;
-      offset = 0;
+      offset = bytePos 0;
       «entry_count» = length es;
       entries = padEntries (entriesAt p es);
       animated = hasLoop es;

@@ -5,6 +5,7 @@ use Prim.Native.Nat.{ℕ, _+_}
 use lib.Dec.{leb}
 use lib.ListN.{length}
 use Rattle.bpg_codec.specs.Outcome.{Outcome, ok, error, _>>=_, guard}
+use Rattle.bpg_bytes.specs.Positions.{bytePos}
 use Rattle.bpg_format.specs.Zero.{range, zeroEntry}
 use Rattle.bpg_format.specs.FileCodec.{loopNumbers}
 use Rattle.bpg_format.specs.Read.{number}
@@ -23,11 +24,11 @@ abbrev pub animationControl : (seen : Bool) (p start : ℕ) → List ℕ → Out
 animationControl seen p start l = guard (not seen) 13 p >>= λ _. loopNumbers .decode start start l
 
 abbrev pub refusedStep : (status offset : ℕ) → Step
-refusedStep s o = record { status = s; offset = o; entry = zeroEntry; next = 0 }
+refusedStep s o = record { status = s; offset = bytePos o; entry = zeroEntry; next = bytePos 0 }
 
 abbrev pub foundStep : (tag start size : ℕ) → Step
 foundStep tag start size =
-    record { status = 0; offset = 0; entry = record { tag = tag; payload = range start size }; next = start + size }
+    record { status = 0; offset = bytePos 0; entry = record { tag = tag; payload = range start size }; next = bytePos (start + size) }
 
 abbrev pub stepAnswer : Outcome (ℕ × ℕ × ℕ × List ℕ) → Step
 stepAnswer (ok x) = foundStep (x .0) (x .2) (x .1)

@@ -10,14 +10,14 @@ ghost use Rattle.bpg_entries.specs.Animations.{refusedAnimation, animati
 // Status 0 and the numbers; or a refusal and zeros.
 pub struct Animation {
     pub status: u8,
-    pub offset: usize,
+    pub offset: BytePos,
     pub loop_count: u16,
     pub frame_period_num: u16,
     pub frame_period_den: u16,
 }
 
-pub fn refused(status: u8, offset: usize) -> Animation
-    ensures { λ r. ⌜ r ≡ refusedAnimation status offset ⌝ }
+pub fn refused(status: u8, offset: BytePos) -> Animation
+    ensures { λ r. ⌜ r ≡ refusedAnimation status (offset .0) ⌝ }
 {
     Animation {
         status,
@@ -33,14 +33,14 @@ pub fn read(region: &[u8], at: BytePos) -> Animation
     ensures { λ r. ⌜ r ≡ animationAnswer (loopNumbers .decode (at .0) (at .0) (drop (at .0) (now (region .entry)))) ⌝ }
 {
     match ue7::read(region, at, 16) {
-        Number::Refused(status, offset) => refused(status, offset.0),
+        Number::Refused(status, offset) => refused(status, offset),
         Number::Value(count, after_count) => match ue7::read_nonzero(region, after_count, 16, 12) {
-            Number::Refused(status, offset) => refused(status, offset.0),
+            Number::Refused(status, offset) => refused(status, offset),
             Number::Value(num, after_num) => match ue7::read_nonzero(region, after_num, 16, 12) {
-                Number::Refused(status, offset) => refused(status, offset.0),
+                Number::Refused(status, offset) => refused(status, offset),
                 Number::Value(den, after_den) => Animation {
                     status: 0,
-                    offset: 0,
+                    offset: BytePos(0),
                     loop_count: count as u16,
                     frame_period_num: num as u16,
                     frame_period_den: den as u16,

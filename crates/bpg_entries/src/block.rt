@@ -13,18 +13,18 @@ ghost use Rattle.bpg_entries.specs.Blocks.{refusedBlock, blockAnswer, en
 // Status 0, the entries, whether one has tag 5, and what it says; or a refusal and zeros.
 pub struct Block {
     pub status: u8,
-    pub offset: usize,
+    pub offset: BytePos,
     pub entry_count: u32,
     pub entries: [Entry; MAX_ENTRIES],
     pub animated: bool,
     pub animation: Animation,
 }
 
-pub fn refused(status: u8, offset: usize) -> Block
-    ensures { λ r. ⌜ r ≡ refusedBlock status offset ⌝ }
+pub fn refused(status: u8, offset: BytePos) -> Block
+    ensures { λ r. ⌜ r ≡ refusedBlock status (offset .0) ⌝ }
 {
     let entry = zero_entry();
-    let animation = animation::refused(0, 0);
+    let animation = animation::refused(0, BytePos(0));
     Block {
         status,
         offset,
@@ -39,7 +39,7 @@ pub fn refused(status: u8, offset: usize) -> Block
 pub fn none() -> Block
     ensures { λ r. ⌜ r ≡ refusedBlock 0 0 ⌝ }
 {
-    refused(0, 0)
+    refused(0, BytePos(0))
 }
 
 // The entries from `at` to the end of the region. A region longer than a file is refused.
@@ -48,17 +48,17 @@ pub fn read(region: &[u8], at: BytePos) -> Block
     ensures { λ r. ⌜ r ≡ blockAnswer (at .0) (entriesIn (now (region .entry)) (at .0)) ⌝ }
 {
     if MAX_FILE < region.len() {
-        return refused(1, 0);
+        return refused(1, BytePos(0));
     }
     let none = zero_entry();
     let mut entries = [none; MAX_ENTRIES];
     let mut entry_count: u32 = 0;
     let mut animated = false;
-    let mut animation = animation::refused(0, 0);
+    let mut animation = animation::refused(0, BytePos(0));
     let mut next = at.0;
     while next < region.len() {
         if MAX_ENTRIES <= entry_count as usize {
-            return refused(11, next);
+            return refused(11, BytePos(next));
         }
         let step = entry::read(region, BytePos(next));
         if step.status != 0 {
@@ -68,18 +68,18 @@ pub fn read(region: &[u8], at: BytePos) -> Block
         entries[entry_count as usize] = entry;
         entry_count += 1;
         if entry.tag == 5 {
-            let found = entry::control(region, next, animated, step);
+            let found = entry::control(region, BytePos(next), animated, step);
             if found.status != 0 {
                 return refused(found.status, found.offset);
             }
             animated = true;
             animation = found;
         }
-        next = step.next;
+        next = step.next.0;
     }
     Block {
         status: 0,
-        offset: 0,
+        offset: BytePos(0),
         entry_count,
         entries,
         animated,

@@ -17,38 +17,38 @@ ghost use Rattle.bpg_entries.specs.Entries.{entryStart, refusedStep, fou
 // Status 0, the entry, and the offset after it; or a refusal.
 pub struct Step {
     pub status: u8,
-    pub offset: usize,
+    pub offset: BytePos,
     pub entry: Entry,
-    pub next: usize,
+    pub next: BytePos,
 }
 
-fn refused(status: u8, offset: usize) -> Step
-    ensures { λ r. ⌜ r ≡ refusedStep status offset ⌝ }
+fn refused(status: u8, offset: BytePos) -> Step
+    ensures { λ r. ⌜ r ≡ refusedStep status (offset .0) ⌝ }
 {
     let entry = zero_entry();
     Step {
         status,
         offset,
         entry,
-        next: 0,
+        next: BytePos(0),
     }
 }
 
-fn found(tag: u32, start: usize, size: u32) -> Step
-    requires { ⌜ start + size ≤ maxFile ⌝ }
-    ensures { λ r. ⌜ r ≡ foundStep tag start size ⌝ }
+fn found(tag: u32, start: BytePos, size: u32) -> Step
+    requires { ⌜ start .0 + size ≤ maxFile ⌝ }
+    ensures { λ r. ⌜ r ≡ foundStep tag (start .0) size ⌝ }
 {
     Step {
         status: 0,
-        offset: 0,
+        offset: BytePos(0),
         entry: Entry {
             tag,
             payload: Range {
-                start: start as u32,
+                start: start.0 as u32,
                 length: size,
             },
         },
-        next: start + size as usize,
+        next: BytePos(start.0 + size as usize),
     }
 }
 
@@ -59,27 +59,27 @@ pub(crate) fn read(region: &[u8], at: BytePos) -> Step
     ensures { λ r. ⌜ r ≡ stepAnswer (entryStart (at .0) (drop (at .0) (now (region .entry)))) ⌝ }
 {
     match ue7::read(region, at, 32) {
-        Number::Refused(status, offset) => refused(status, offset.0),
+        Number::Refused(status, offset) => refused(status, offset),
         Number::Value(tag, length_at) => match ue7::read(region, length_at, 32) {
-            Number::Refused(status, offset) => refused(status, offset.0),
+            Number::Refused(status, offset) => refused(status, offset),
             Number::Value(size, start) => {
                 if region.len() - start.0 < size as usize {
-                    return refused(2, length_at.0);
+                    return refused(2, length_at);
                 }
-                found(tag, start.0, size)
+                found(tag, start, size)
             }
         },
     }
 }
 
 // The loop numbers of an entry with tag 5, found at `at`; `seen`: another stands before it.
-pub(crate) fn control(region: &[u8], at: usize, seen: bool, step: Step) -> Animation
-    requires { ⌜ step .next ≤ count (now region) ⌝ }
-    ensures { λ r. ⌜ r ≡ animationAnswer (animationControl seen at (step .entry .payload .start) (drop (step .entry .payload .start) (take (step .next) (now (region .entry))))) ⌝ }
+pub(crate) fn control(region: &[u8], at: BytePos, seen: bool, step: Step) -> Animation
+    requires { ⌜ step .next .0 ≤ count (now region) ⌝ }
+    ensures { λ r. ⌜ r ≡ animationAnswer (animationControl seen (at .0) (step .entry .payload .start) (drop (step .entry .payload .start) (take (step .next .0) (now (region .entry))))) ⌝ }
 {
     if seen {
         return animation::refused(13, at);
     }
-    let end = step.next;
+    let end = step.next.0;
     animation::read(&region[0..end], BytePos(step.entry.payload.start as usize))
 }

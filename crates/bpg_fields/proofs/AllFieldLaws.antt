@@ -1,22 +1,26 @@
 -- All fields of a header as a chain of groups, and the limits of those that a byte holds. Assumes nothing.
-use mathlib.Core.Path.{_≡_, _∙_}
-use mathlib.Core.Bool.{Bool, true, false}
+use mathlib.Core.Path.{_≡_, refl, sym, ap, _∙_}
+use mathlib.Core.Bool.{Bool, true, false, true≢false}
 use mathlib.Core.List.{List}
 use Prim.Native.Nat.{ℕ, _<_}
 use native.Mathlib.Omega.{arith}
+use lib.Dec.{eqb}
 use lib.ListN.{drop, replicate}
 use Rattle.bpg_codec.specs.Select.{select}
-use Rattle.bpg_codec.specs.Outcome.{ok, _>>=_}
+use Rattle.bpg_codec.specs.Outcome.{Outcome, ok, error, _>>=_}
 use Rattle.bpg_codec.specs.Codec.{Codec, decodeAt, atItem}
-use Rattle.bpg_codec.specs.Bits.{Bit}
+use Rattle.bpg_codec.specs.Bits.{Bit, bit}
 use Rattle.bpg_codec.specs.Parts.{sequence, absent, fixed}
 use Rattle.bpg_codec.proofs.Outcome.{bind-assoc, unlocate}
 use Rattle.bpg_codec.proofs.Positions.{Advances, sequence-advances, absent-advances, select-advances, mapped-advances, mapped-at, four-at, five-at, fixed-advances}
 use Rattle.bpg_codec.proofs.Tokens.{all-bits}
 use Rattle.bpg_bits.proofs.Advances.{unsigned-advances, expGolomb-advances}
+use Rattle.bpg_bits.proofs.Items.{missingAt, Itemed, unsigned-items, expGolomb-items, sequence-items, mapped-items, optional-items, fixed-items, at-item}
+use Rattle.bpg_format.specs.declared.record.Header.{Header}
 use Rattle.bpg_format.specs.FileCodec.{oneBit, optional, sizeFields, pcmFields, spsFields, PcmFields, noPcm, noSps, fieldSequence, headerFrom, fieldsOf, headerFields}
 use Rattle.bpg_format.proofs.FileLaws.{optional-lawful, pcm-lawful, sps-lawful}
-use Rattle.bpg_fields.specs.AllFields.{restSequence}
+use Rattle.bpg_fields.specs.declared.all_fields.Fields.{Fields}
+use Rattle.bpg_fields.specs.AllFields.{restSequence, fieldsAnswer}
 use Rattle.bpg_fields.proofs.FieldLaws.{flag-advances}
 
 -- ---- what is left
@@ -58,6 +62,60 @@ sequence-advance =
 pub fields-advance : Advances headerFields
 unfolding headerFields
 fields-advance = mapped-advances sequence-advance headerFrom fieldsOf
+
+-- ---- what is missing
+
+sizes-items : Itemed sizeFields
+unfolding sizeFields
+sizes-items =
+    let e = expGolomb-items in
+    sequence-items e λ _. sequence-items e λ _. sequence-items e λ _. sequence-items e λ _. e
+
+flag-items : Itemed oneBit
+flag-items = mapped-items (unsigned-items 1) (λ v. eqb v 1) bit
+
+pcm-items : Itemed pcmFields
+unfolding pcmFields
+pcm-items =
+    let u = unsigned-items 4 in
+    let e = expGolomb-items in
+    sequence-items u λ _. sequence-items u λ _. sequence-items e λ _. sequence-items e λ _. flag-items
+
+sps-items : Itemed spsFields
+unfolding spsFields
+sps-items = sequence-items flag-items λ _. unsigned-items 7
+
+sequence-items-all : Itemed fieldSequence
+unfolding fieldSequence
+sequence-items-all =
+    sequence-items sizes-items λ _.
+    sequence-items flag-items λ _.
+    sequence-items flag-items λ pcm.
+    sequence-items (optional-items pcm-items pcm noPcm) λ _.
+    sequence-items flag-items λ _.
+    sequence-items flag-items λ sps.
+    sequence-items (optional-items sps-items sps noSps) λ x.
+    optional-items (fixed-items 9) (x .0) (replicate 9 false)
+
+fields-items : Itemed headerFields
+unfolding headerFields
+fields-items = mapped-items sequence-items-all headerFrom fieldsOf
+
+-- an answer says for each item what is there
+module _ (bits : List Bool) (p : ℕ) (r : Fields) (e : r ≡ fieldsAnswer (decodeAt bits headerFields 0 p)) (i : ℕ) where
+  pub fields-missing : r .found ≡ false → decodeAt bits headerFields i p ≡ error 15 i
+  fields-missing f = at-item fields-items bits i p ∙ by (decodeAt bits headerFields 0 p) e
+    where
+      by : (m : Outcome (Header × ℕ)) → r ≡ fieldsAnswer m → missingAt i m ≡ error 15 i
+      by (ok x) k = absurd (true≢false (sym (ap (λ (y : Fields). y .found) k) ∙ f))
+      by (error s o) k = refl
+
+  pub fields-found : r .found ≡ true → decodeAt bits headerFields i p ≡ ok (r .header, r .next .0)
+  fields-found f = at-item fields-items bits i p ∙ by (decodeAt bits headerFields 0 p) e
+    where
+      by : (m : Outcome (Header × ℕ)) → r ≡ fieldsAnswer m → missingAt i m ≡ ok (r .header, r .next .0)
+      by (ok x) k = ap (λ (y : Fields). ok (y .header, y .next .0)) (sym k)
+      by (error s o) k = absurd (true≢false (sym f ∙ ap (λ (y : Fields). y .found) k))
 
 -- ---- the chains
 

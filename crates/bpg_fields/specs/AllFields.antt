@@ -1,23 +1,25 @@
 -- What reading all fields of a header answers.
-use mathlib.Core.Bool.{Bool, false}
+use mathlib.Core.Bool.{Bool, true, false}
 use mathlib.Core.List.{List}
 use Prim.Native.Nat.{ℕ}
 use lib.ListN.{replicate}
-use Rattle.bpg_codec.specs.Select.{select}
 use Rattle.bpg_codec.specs.Outcome.{Outcome, ok, error, _>>=_}
 use Rattle.bpg_codec.specs.Codec.{Codec, decodeAt, atItem}
 use Rattle.bpg_codec.specs.Bits.{Bit}
 use Rattle.bpg_codec.specs.Parts.{sequence, fixed}
+use Rattle.bpg_bytes.specs.Positions.{bitPos}
 use Rattle.bpg_format.specs.declared.record.Header.{Header}
 use Rattle.bpg_format.specs.Zero.{zeroHeader}
 use Rattle.bpg_format.specs.FileCodec.{oneBit, optional, spsFields, noSps, fieldsOf, headerFrom}
 use Rattle.bpg_fields.specs.declared.all_fields.Fields.{Fields}
 
 abbrev pub missingFields : Fields
-missingFields = record { found = false; header = zeroHeader; next = record { 0 = 0 } }
+missingFields = record { found = false; header = zeroHeader; next = bitPos 0 }
 
-abbrev pub fieldsOutcome : (item : ℕ) → Fields → Outcome (Header × ℕ)
-fieldsOutcome i r = select (r .found) (ok (r .header, r .next .0)) (error 15 i)
+-- a refusal's place is the caller's to say: whatever the item, the answer is the same
+abbrev pub fieldsAnswer : Outcome (Header × ℕ) → Fields
+fieldsAnswer (ok x) = record { found = true; header = x .0; next = bitPos (x .1) }
+fieldsAnswer (error s o) = missingFields
 
 -- the fields from strong intra smoothing on
 abbrev pub RestTuple : Type 0
@@ -34,5 +36,5 @@ restSequence =
 abbrev pub withRest : Header → RestTuple → Header
 withRest h x = let f = fieldsOf h in headerFrom (f .0, (f .1 .0, (f .1 .1 .0, (f .1 .1 .1 .0, x))))
 
-abbrev pub restAt : (bits : List Bool) → Header → (item p : ℕ) → Outcome (Header × ℕ)
-restAt bits h i p = decodeAt bits restSequence i p >>= λ x. ok (withRest h (x .0), x .1)
+abbrev pub restAt : (bits : List Bool) → Header → (p : ℕ) → Outcome (Header × ℕ)
+restAt bits h p = decodeAt bits restSequence 0 p >>= λ x. ok (withRest h (x .0), x .1)

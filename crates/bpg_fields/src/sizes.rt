@@ -3,9 +3,11 @@ use crate::fields;
 use crate::fields::Sizes;
 use bpg_bits::bits;
 use bpg_bytes::BitPos;
+use bpg_bytes::BytePos;
 use bpg_bytes::arithmetic::least;
 use bpg_bytes::arithmetic::remaining;
 use bpg_bytes::arithmetic::wide;
+use bpg_bytes::byte_of;
 ghost use mathlib.Core.Path.{_≡_};
 ghost use Prim.Native.Nat.{ℕ, _^_, _<_};
 ghost use Rattle.bpg_codec.specs.Codec.{decodeAt};
@@ -21,11 +23,12 @@ struct Code {
     end: u32,
 }
 
-// The 64 bits from byte `start` on as a number; zeros past the region.
-fn word_at(region: &[u8], start: usize) -> u64
-    requires { ⌜ start < 2 ^ 61 ⌝ }
-    ensures { λ r. ⌜ bitsOf 64 r ≡ wordBits (now (region .entry)) start ⌝ }
+// The 64 bits from `at` on as a number; zeros past the region.
+fn word_at(region: &[u8], at: BytePos) -> u64
+    requires { ⌜ at .0 < 2 ^ 61 ⌝ }
+    ensures { λ r. ⌜ bitsOf 64 r ≡ wordBits (now (region .entry)) (at .0) ⌝ }
 {
+    let start = at.0;
     let end = least(start + 8, region.len());
     let mut word: u64 = 0;
     let mut free: u32 = 64;
@@ -58,27 +61,27 @@ fn code_at(word: u64, at: u32) -> Code
 }
 
 // How many bits the region has from `at` on, at most 63: none where `at` is not the first bit of a byte.
-fn bits_left(region: &[u8], at: usize) -> usize
-    ensures { λ r. ⌜ BitsLeft (now (region .entry)) at r ⌝ }
+fn bits_left(region: &[u8], at: BitPos) -> usize
+    ensures { λ r. ⌜ BitsLeft (now (region .entry)) (at .0) r ⌝ }
 {
-    if at % 8 != 0 {
+    if at.0 % 8 != 0 {
         return 0;
     }
-    least(remaining(bits::count(region), at), 63)
+    least(remaining(bits::count(region), at.0), 63)
 }
 
 // The sizes at `at`. Where a code is long, or the region ends early, they are read one by one.
 pub(crate) fn read(region: &[u8], at: BitPos) -> Sizes
     ensures { λ r. ⌜ ((i : ℕ) → sizesOutcome i r ≡ decodeAt (regionBits (now (region .entry))) sizeFields i (at .0)) ⌝ }
 {
-    let word = word_at(region, at.0 / 8);
+    let word = word_at(region, byte_of(at));
     let a = code_at(word, 0);
     let b = code_at(word, a.end);
     let c = code_at(word, b.end);
     let d = code_at(word, c.end);
     let e = code_at(word, d.end);
     let size = e.end as usize;
-    if bits_left(region, at.0) < size {
+    if bits_left(region, at) < size {
         return fields::read_sizes(region, at);
     }
     Sizes::Value(

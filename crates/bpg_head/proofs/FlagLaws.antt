@@ -11,12 +11,13 @@ use lib.ListN.{length, take, getD}
 use borrow.Author.Tests.{le-leb, lt-leb, eq-eqb, ne-eqb}
 use Rattle.bpg_codec.specs.Outcome.{Outcome, ok, error}
 use Rattle.bpg_codec.specs.Parts.{same}
+use Rattle.bpg_bytes.specs.Positions.{bytePos}
 use Rattle.bpg_format.specs.Content.{Flags}
 use Rattle.bpg_format.specs.Syntax.{magic}
-use Rattle.bpg_format.specs.FileCodec.{flag, flagsOf, colorSpaceAllowed, readFlags}
+use Rattle.bpg_format.specs.FileCodec.{flagsOf, colorSpaceAllowed, readFlags}
 use Rattle.bpg_format.proofs.ReadingRefusals.{read-flags}
-use Rattle.bpg_head.specs.declared.flags.Flags.{Flags as FlagsRead}
-use Rattle.bpg_head.specs.FlagBytes.{refusedFlags, flagsAnswer, flagFields}
+use Rattle.bpg_head.specs.declared.flags.FlagsReading.{FlagsReading}
+use Rattle.bpg_head.specs.FlagBytes.{codedFlags, flagFields, refusedFlags, flagsAnswer}
 
 -- ---- magic
 
@@ -83,37 +84,24 @@ module _ (l : List ℕ) where
           unfolding readFlags
           no-space h = rw (le-leb 6 (length l) six, m, le-leb _ _ f, le-leb _ _ d, h)
 
-          -- the last flag is what the byte leaves
           pub all-kept : colorSpaceAllowed (flagsOf byte4 byte5) ≡ true
-              → record {
-                status = 0;
-                offset = 0;
-                «pixel_format» = byte4 / 32;
-                «alpha1_flag» = flag byte4 16;
-                «bit_depth_minus_8» = byte4 % 16;
-                «color_space» = byte5 / 16;
-                «extension_present_flag» = flag byte5 8;
-                «alpha2_flag» = flag byte5 4;
-                «limited_range_flag» = flag byte5 2;
-                «animation_flag» = eqb (byte5 % 2) 1;
-              }
-              ≡ flagsAnswer (readFlags l)
+              → record { status = 0; offset = bytePos 0; flags = codedFlags (flagsOf byte4 byte5) } ≡ flagsAnswer (readFlags l)
           unfolding readFlags
-          all-kept h = let e : byte5 / 1 % 2 ≡ byte5 % 2 = omega arith in rw (le-leb 6 (length l) six, m, le-leb _ _ f, le-leb _ _ d, h, e)
+          all-kept h = rw (le-leb 6 (length l) six, m, le-leb _ _ f, le-leb _ _ d, h)
 
 -- ---- what an answer tells of the bytes
 
-module _ (l : List ℕ) (r : FlagsRead) (k : r ≡ flagsAnswer (readFlags l)) where
-  pub flags-refused : r .status ≢ 0 → readFlags l ≡ error (r .status) (r .offset)
+module _ (l : List ℕ) (r : FlagsReading) (k : r ≡ flagsAnswer (readFlags l)) where
+  pub flags-refused : r .status ≢ 0 → readFlags l ≡ error (r .status) (r .offset .0)
   flags-refused n = by (readFlags l) k
     where
-      by : (m : Outcome Flags) → r ≡ flagsAnswer m → m ≡ error (r .status) (r .offset)
-      by (ok f) k = absurd (n (ap (λ (y : FlagsRead). y .status) k))
-      by (error s o) k = ap (λ (y : FlagsRead). error (y .status) (y .offset)) (sym k)
+      by : (m : Outcome Flags) → r ≡ flagsAnswer m → m ≡ error (r .status) (r .offset .0)
+      by (ok f) k = absurd (n (ap (λ (y : FlagsReading). y .status) k))
+      by (error s o) k = ap (λ (y : FlagsReading). error (y .status) (y .offset .0)) (sym k)
 
-  pub flags-read : r .status ≡ 0 → readFlags l ≡ ok (flagFields r)
+  pub flags-read : r .status ≡ 0 → readFlags l ≡ ok (flagFields (r .flags))
   flags-read z = by (readFlags l) refl k
     where
-      by : (m : Outcome Flags) → readFlags l ≡ m → r ≡ flagsAnswer m → m ≡ ok (flagFields r)
-      by (ok f) e k = ap (λ (y : FlagsRead). ok (flagFields y)) (sym k)
-      by (error s o) e k = absurd (omega (arith, ap (λ (y : FlagsRead). y .status) k, read-flags l s o e .0))
+      by : (m : Outcome Flags) → readFlags l ≡ m → r ≡ flagsAnswer m → m ≡ ok (flagFields (r .flags))
+      by (ok f) e k = ap (λ (y : FlagsReading). ok (flagFields (y .flags))) (sym k)
+      by (error s o) e k = absurd (omega (arith, ap (λ (y : FlagsReading). y .status) k, read-flags l s o e .0))

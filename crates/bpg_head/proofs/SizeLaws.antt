@@ -12,7 +12,10 @@ use Rattle.bpg_codec.specs.Codec.{atOwn}
 use Rattle.bpg_codec.proofs.Outcome.{ok-injective, unbind, bind-assoc}
 use Rattle.bpg_codec.proofs.Positions.{Advanced, Advances, advanced-then, guarded-advances}
 use Rattle.bpg_codec.proofs.Refusals.{Refuses, refuses-ok, refuses-bind, CodecRefuses, guarded-refuses}
+use Rattle.bpg_bytes.specs.Positions.{bytePos}
+use Rattle.bpg_numbers.specs.declared.ue7.Number.{Number}
 use Rattle.bpg_numbers.specs.Ue7.{ue7, notZero}
+use Rattle.bpg_numbers.specs.Answers.{numberAnswer}
 use Rattle.bpg_numbers.proofs.Advances.{ue7-advances}
 use Rattle.bpg_numbers.proofs.Refusals.{ue7-refuses}
 use Rattle.bpg_format.specs.FileCodec.{dimension}
@@ -23,10 +26,10 @@ pub dimension-advances : Advances dimension
 unfolding dimension
 dimension-advances = guarded-advances (ue7-advances 32) notZero 9 atOwn
 
-pub as-dimension : (region : List ℕ) (p : ℕ) (o : Outcome (ℕ × ℕ)) → o ≡ located (guarded (ue7 32) notZero 9 atOwn .decode p p (drop p region))
-    → o ≡ located (dimension .decode p p (drop p region))
+pub as-dimension : (region : List ℕ) (p : ℕ) (r : Number) → r ≡ numberAnswer (located (guarded (ue7 32) notZero 9 atOwn .decode p p (drop p region)))
+    → r ≡ numberAnswer (located (dimension .decode p p (drop p region)))
 unfolding dimension
-as-dimension region p o e = e
+as-dimension region p r e = e
 
 -- ---- one after the other
 
@@ -49,7 +52,7 @@ module _ (region : List ℕ) (p : ℕ) where
     height-refused s o e = rw (as-chain, w, e)
 
     pub both-read : (height r : ℕ) → dimension .decode q q (drop q region) ≡ ok (height, r, drop r region)
-        → record { status = 0; offset = 0; width = width; height = height; next = r } ≡ sizeAnswer (readSize p (drop p region))
+        → record { status = 0; offset = bytePos 0; width = width; height = height; next = bytePos r } ≡ sizeAnswer (readSize p (drop p region))
     both-read height r e = rw (as-chain, w, e)
 
 -- ---- what an answer tells
@@ -75,20 +78,20 @@ chain-advances p l x e =
     (advanced-then (dimension-advances .advances p p l w e1) (dimension-advances .advances (w .1) (w .1) (w .2) h e2))
 
 module _ (region : List ℕ) (p : ℕ) (r : Size) (k : r ≡ sizeAnswer (readSize p (drop p region))) where
-  pub size-refused : r .status ≢ 0 → readSize p (drop p region) ≡ error (r .status) (r .offset)
+  pub size-refused : r .status ≢ 0 → readSize p (drop p region) ≡ error (r .status) (r .offset .0)
   size-refused n = by (readSize p (drop p region)) k
     where
-      by : (m : Outcome ((ℕ × ℕ) × ℕ × List ℕ)) → r ≡ sizeAnswer m → m ≡ error (r .status) (r .offset)
+      by : (m : Outcome ((ℕ × ℕ) × ℕ × List ℕ)) → r ≡ sizeAnswer m → m ≡ error (r .status) (r .offset .0)
       by (ok x) k = absurd (n (ap (λ (y : Size). y .status) k))
-      by (error s o) k = ap (λ (y : Size). error (y .status) (y .offset)) (sym k)
+      by (error s o) k = ap (λ (y : Size). error (y .status) (y .offset .0)) (sym k)
 
-  pub size-read : r .status ≡ 0 → readSize p (drop p region) ≡ ok ((r .width, r .height), r .next, drop (r .next) region)
+  pub size-read : r .status ≡ 0 → readSize p (drop p region) ≡ ok ((r .width, r .height), r .next .0, drop (r .next .0) region)
   size-read z = by (readSize p (drop p region)) (sym (as-chain p (drop p region))) k
     where
-      by : (m : Outcome ((ℕ × ℕ) × ℕ × List ℕ)) → chain p (drop p region) ≡ m → r ≡ sizeAnswer m → m ≡ ok ((r .width, r .height), r .next, drop (r .next) region)
+      by : (m : Outcome ((ℕ × ℕ) × ℕ × List ℕ)) → chain p (drop p region) ≡ m → r ≡ sizeAnswer m → m ≡ ok ((r .width, r .height), r .next .0, drop (r .next .0) region)
       by (ok x) e k =
           let a = chain-advances p (drop p region) x e in
           let n : p + (x .1 - p) ≡ x .1 = omega (arith, a .forward) in
           let left : x .2 ≡ drop (x .1) region = a .left ∙ drop-drop (x .1 - p) p region ∙ ap (λ (j : ℕ). drop j region) n in
-          ap (λ (m : List ℕ). ok (x .0, x .1, m)) left ∙ ap (λ (y : Size). ok ((y .width, y .height), y .next, drop (y .next) region)) (sym k)
+          ap (λ (m : List ℕ). ok (x .0, x .1, m)) left ∙ ap (λ (y : Size). ok ((y .width, y .height), y .next .0, drop (y .next .0) region)) (sym k)
       by (error s o) e k = absurd (omega (arith, ap (λ (y : Size). y .status) k, chain-refuses p (drop p region) s o e))

@@ -2,14 +2,14 @@
 use mathlib.Core.Bool.{false}
 use Prim.Native.Nat.{ℕ}
 use Rattle.bpg_codec.specs.Outcome.{Outcome, ok, error}
+use Rattle.bpg_bytes.specs.Positions.{bytePos}
 use Rattle.bpg_format.specs.Content.{Flags}
-use Rattle.bpg_head.specs.declared.flags.Flags.{Flags as FlagsRead}
+use Rattle.bpg_head.specs.declared.flags.Flags.{Flags as CodedFlags}
+use Rattle.bpg_head.specs.declared.flags.FlagsReading.{FlagsReading}
 
-abbrev pub refusedFlags : (status offset : ℕ) → FlagsRead
-refusedFlags s o =
+abbrev pub zeroFlags : CodedFlags
+zeroFlags =
     record {
-      status = s;
-      offset = o;
       «pixel_format» = 0;
       «alpha1_flag» = false;
       «bit_depth_minus_8» = 0;
@@ -20,11 +20,10 @@ refusedFlags s o =
       «animation_flag» = false;
     }
 
-abbrev pub flagsAnswer : Outcome Flags → FlagsRead
-flagsAnswer (ok f) =
+-- a content's flags as the code holds them
+abbrev pub codedFlags : Flags → CodedFlags
+codedFlags f =
     record {
-      status = 0;
-      offset = 0;
       «pixel_format» = f .pixelFormat;
       «alpha1_flag» = f .alpha1;
       «bit_depth_minus_8» = f .bitDepthMinus8;
@@ -34,10 +33,9 @@ flagsAnswer (ok f) =
       «limited_range_flag» = f .limitedRange;
       «animation_flag» = f .animation;
     }
-flagsAnswer (error s o) = refusedFlags s o
 
--- the flags that an answer holds
-abbrev pub flagFields : FlagsRead → Flags
+-- and back
+abbrev pub flagFields : CodedFlags → Flags
 flagFields r =
     record {
       pixelFormat = r .«pixel_format»;
@@ -49,3 +47,10 @@ flagFields r =
       limitedRange = r .«limited_range_flag»;
       animation = r .«animation_flag»;
     }
+
+abbrev pub refusedFlags : (status offset : ℕ) → FlagsReading
+refusedFlags s o = record { status = s; offset = bytePos o; flags = zeroFlags }
+
+abbrev pub flagsAnswer : Outcome Flags → FlagsReading
+flagsAnswer (ok f) = record { status = 0; offset = bytePos 0; flags = codedFlags f }
+flagsAnswer (error s o) = refusedFlags s o

@@ -1,16 +1,18 @@
 -- The head of a file (document 01, "Order of the file", items 1 to 3), up to the extension length as a number: whether the lengths fit the
 -- file is not judged, and a file of any length is read. It is how `readContent` begins.
-use mathlib.Core.Bool.{Bool, false}
+use mathlib.Core.Bool.{Bool}
 use mathlib.Core.List.{List}
 use Prim.Native.Nat.{ℕ}
 use lib.ListN.{drop}
 use Rattle.bpg_codec.specs.Select.{select}
 use Rattle.bpg_codec.specs.Outcome.{Outcome, ok, error, _>>=_, guard}
+use Rattle.bpg_bytes.specs.Positions.{bytePos}
 use Rattle.bpg_numbers.specs.Ue7.{notZero}
 use Rattle.bpg_format.specs.Content.{Flags}
 use Rattle.bpg_format.specs.FileCodec.{readFlags}
 use Rattle.bpg_format.specs.Read.{number}
 use Rattle.bpg_head.specs.declared.head.Head.{Head}
+use Rattle.bpg_head.specs.FlagBytes.{zeroFlags, codedFlags}
 
 pub record HeadFields : Type 0 where
   pub flags : Flags
@@ -50,44 +52,30 @@ abbrev pub refusedHead : (status offset : ℕ) → Head
 refusedHead s o =
     record {
       status = s;
-      offset = o;
-      «pixel_format» = 0;
-      «alpha1_flag» = false;
-      «bit_depth_minus_8» = 0;
-      «color_space» = 0;
-      «extension_present_flag» = false;
-      «alpha2_flag» = false;
-      «limited_range_flag» = false;
-      «animation_flag» = false;
+      offset = bytePos o;
+      flags = zeroFlags;
       «picture_width» = 0;
       «picture_height» = 0;
       «data_length» = 0;
-      «data_length_at» = 0;
+      «data_length_at» = bytePos 0;
       «extension_length» = 0;
-      «extension_length_at» = 0;
-      end = 0;
+      «extension_length_at» = bytePos 0;
+      end = bytePos 0;
     }
 
 abbrev pub headAnswer : Outcome HeadFields → Head
 headAnswer (ok h) =
     record {
       status = 0;
-      offset = 0;
-      «pixel_format» = h .flags .pixelFormat;
-      «alpha1_flag» = h .flags .alpha1;
-      «bit_depth_minus_8» = h .flags .bitDepthMinus8;
-      «color_space» = h .flags .colorSpace;
-      «extension_present_flag» = h .flags .extensionPresent;
-      «alpha2_flag» = h .flags .alpha2;
-      «limited_range_flag» = h .flags .limitedRange;
-      «animation_flag» = h .flags .animation;
+      offset = bytePos 0;
+      flags = codedFlags (h .flags);
       «picture_width» = h .width;
       «picture_height» = h .height;
       «data_length» = h .dataLength;
-      «data_length_at» = h .dataLengthAt;
+      «data_length_at» = bytePos (h .dataLengthAt);
       «extension_length» = h .extensionLength;
-      «extension_length_at» = h .extensionLengthAt;
-      end = h .end;
+      «extension_length_at» = bytePos (h .extensionLengthAt);
+      end = bytePos (h .end);
     }
 headAnswer (error s o) = refusedHead s o
 

@@ -2,6 +2,7 @@
 use mathlib.Core.List.{List}
 use Prim.Native.Nat.{ℕ}
 use Rattle.bpg_codec.specs.Outcome.{Outcome, ok, error, _>>=_, guard}
+use Rattle.bpg_bytes.specs.Positions.{bytePos}
 use Rattle.bpg_numbers.specs.Ue7.{notZero}
 use Rattle.bpg_format.specs.Read.{number}
 use Rattle.bpg_head.specs.declared.size.Size.{Size}
@@ -15,8 +16,8 @@ readSize p l =
     ok ((width .0, height .0), height .1, height .2)
 
 abbrev pub refusedSize : (status offset : ℕ) → Size
-refusedSize s o = record { status = s; offset = o; width = 0; height = 0; next = 0 }
+refusedSize s o = record { status = s; offset = bytePos o; width = 0; height = 0; next = bytePos 0 }
 
 abbrev pub sizeAnswer : Outcome ((ℕ × ℕ) × ℕ × List ℕ) → Size
-sizeAnswer (ok x) = record { status = 0; offset = 0; width = x .0 .0; height = x .0 .1; next = x .1 }
+sizeAnswer (ok x) = record { status = 0; offset = bytePos 0; width = x .0 .0; height = x .0 .1; next = bytePos (x .1) }
 sizeAnswer (error s o) = refusedSize s o

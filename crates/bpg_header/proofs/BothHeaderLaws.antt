@@ -11,6 +11,7 @@ use Rattle.bpg_codec.specs.Outcome.{Outcome, ok, error}
 use Rattle.bpg_codec.proofs.Select.{select-true, select-false}
 use Rattle.bpg_codec.proofs.Answers.{refused-error, accepted-value}
 use Rattle.bpg_codec.proofs.Refusals.{Refuses, refuses-ok, refuses-guard, refuses-select}
+use Rattle.bpg_bytes.specs.Positions.{bytePos}
 use Rattle.bpg_format.specs.Limits.{maxFile}
 use Rattle.bpg_format.specs.declared.record.Header.{Header}
 use Rattle.bpg_format.specs.Zero.{zeroHeader}
@@ -50,23 +51,23 @@ module _ {Q : Type 0} (o : Outcome (Header × ℕ × List ℕ)) (r : HeaderReadi
   went-on z h = accepted-value headerAnswer (λ r. r .status) (λ _. refl) (λ _ _. refl) o r e z λ s q w k. omega (arith, h s q w .0)
 
 module _ (file : List ℕ) (b : Bool) (depth p : ℕ) (r : HeaderReading) (e : r ≡ headerAnswer (alphaIn file b depth p)) where
-  pub alpha-refused : r .status ≢ 0 → refusedHeaders (r .status) (r .offset) ≡ headersAnswer (headersIn file b depth p)
+  pub alpha-refused : r .status ≢ 0 → refusedHeaders (r .status) (r .offset .0) ≡ headersAnswer (headersIn file b depth p)
   unfolding headersIn
   alpha-refused n = stopped (alphaIn file b depth p) r e n λ s q w. rw (e, w)
 
-  module _ (z : r .status ≡ 0) (t : HeaderReading) (g : t ≡ headerAnswer (headerIn file depth (r .next))) where
-    pub color-refused : t .status ≢ 0 → refusedHeaders (t .status) (t .offset) ≡ headersAnswer (headersIn file b depth p)
+  module _ (z : r .status ≡ 0) (t : HeaderReading) (g : t ≡ headerAnswer (headerIn file depth (r .next .0))) where
+    pub color-refused : t .status ≢ 0 → refusedHeaders (t .status) (t .offset .0) ≡ headersAnswer (headersIn file b depth p)
     unfolding headersIn
     color-refused n =
         went-on (alphaIn file b depth p) r e z (refuses-alpha file b depth p) λ x w.
-        let after : headerIn file depth (r .next) ≡ headerIn file depth (x .1) = ap (λ (h : HeaderReading). headerIn file depth (h .next)) (e ∙ ap headerAnswer w) in
-        stopped (headerIn file depth (r .next)) t g n λ s q v. rw (w, sym after ∙ v, g, v)
+        let after : headerIn file depth (r .next .0) ≡ headerIn file depth (x .1) = ap (λ (h : HeaderReading). headerIn file depth (h .next .0)) (e ∙ ap headerAnswer w) in
+        stopped (headerIn file depth (r .next .0)) t g n λ s q v. rw (w, sym after ∙ v, g, v)
 
     pub both-read : t .status ≡ 0
-        → record { status = 0; offset = 0; alpha = r .header; color = t .header; next = t .next } ≡ headersAnswer (headersIn file b depth p)
+        → record { status = 0; offset = bytePos 0; alpha = r .header; color = t .header; next = t .next } ≡ headersAnswer (headersIn file b depth p)
     unfolding headersIn
     both-read y =
         went-on (alphaIn file b depth p) r e z (refuses-alpha file b depth p) λ x w.
-        let after : headerIn file depth (r .next) ≡ headerIn file depth (x .1) = ap (λ (h : HeaderReading). headerIn file depth (h .next)) (e ∙ ap headerAnswer w) in
-        went-on (headerIn file depth (r .next)) t g y (refuses-header file depth (r .next)) λ c v.
+        let after : headerIn file depth (r .next .0) ≡ headerIn file depth (x .1) = ap (λ (h : HeaderReading). headerIn file depth (h .next .0)) (e ∙ ap headerAnswer w) in
+        went-on (headerIn file depth (r .next .0)) t g y (refuses-header file depth (r .next .0)) λ c v.
         rw (w, sym after ∙ v, g, v, e, w)

@@ -11,7 +11,6 @@ use borrow.Author.Tests.{le-leb, lt-leb}
 use Rattle.bpg_codec.specs.Outcome.{Outcome, ok, error, _>>=_, guard}
 use Rattle.bpg_codec.specs.Codec.{decodeAt}
 use Rattle.bpg_codec.specs.Bits.{isPadding, unpack}
-use Rattle.bpg_codec.proofs.Select.{select-true, select-false}
 use Rattle.bpg_codec.proofs.Outcome.{error-not-ok}
 use Rattle.bpg_codec.proofs.Lists.{take-drop, either-way}
 use Rattle.bpg_codec.proofs.Bits.{unpack-drop}
@@ -20,15 +19,16 @@ use Rattle.bpg_numbers.specs.Ue7.{ue7}
 use Rattle.bpg_bits.specs.BitNumbers.{regionBits}
 use Rattle.bpg_numbers.proofs.Ue7Laws.{decode-end}
 use Rattle.bpg_numbers.proofs.Advances.{ue7-advances}
+use Rattle.bpg_bytes.specs.Positions.{bytePos}
 use Rattle.bpg_format.specs.Limits.{maxFile}
 use Rattle.bpg_format.specs.declared.record.Header.{Header}
 use Rattle.bpg_format.specs.FileCodec.{noForbiddenBit, hevcAllowed, headerFields}
 use Rattle.bpg_format.specs.Read.{readFields, readHeader}
 use Rattle.bpg_format.proofs.Chain.{fields-chain}
 use Rattle.bpg_fields.specs.declared.all_fields.Fields.{Fields}
-use Rattle.bpg_fields.specs.AllFields.{fieldsOutcome}
+use Rattle.bpg_fields.specs.AllFields.{fieldsAnswer}
 use Rattle.bpg_header.specs.Headers.{refusedHeader, headerAnswer, fieldsIn, headerIn}
-use Rattle.bpg_fields.proofs.AllFieldLaws.{fields-advance}
+use Rattle.bpg_fields.proofs.AllFieldLaws.{fields-advance, fields-missing, fields-found}
 
 -- a region that is no longer than a file is read to its end
 all-bits : (region : List ℕ) → length region ≤ maxFile → regionBits region ≡ unpack region
@@ -37,20 +37,21 @@ all-bits region short = ap unpack (take-all (2 ^ 60) region (omega arith))
 -- ---- the fields take up the region
 
 module _ (region : List ℕ) (depth p start : ℕ) (short : length region ≤ maxFile) (r : Fields)
-    (e : (i : ℕ) → fieldsOutcome i r ≡ decodeAt (regionBits region) headerFields i (8 * start)) where
-  fields-are : readFields p (8 * start) (unpack (drop start region)) ≡ (fieldsOutcome p r >>= λ x. ok (x .0, x .1, drop (x .1) (regionBits region)))
-  fields-are =
+    (e : r ≡ fieldsAnswer (decodeAt (regionBits region) headerFields 0 (8 * start))) where
+  fields-are : (o : Outcome (Header × ℕ)) → decodeAt (regionBits region) headerFields p (8 * start) ≡ o
+      → readFields p (8 * start) (unpack (drop start region)) ≡ (o >>= λ x. ok (x .0, x .1, drop (x .1) (regionBits region)))
+  fields-are o k =
       sym (fields-chain p (8 * start) (unpack (drop start region)))
       ∙ ap (headerFields .decode p (8 * start)) (unpack-drop start region ∙ ap (drop (8 * start)) (sym (all-bits region short)))
-      ∙ whole fields-advance (regionBits region) p (8 * start) (fieldsOutcome p r) (e p)
+      ∙ whole fields-advance (regionBits region) p (8 * start) o (sym k)
 
   pub field-missing : r .found ≡ false → refusedHeader 15 p ≡ headerAnswer (fieldsIn region depth p start)
   unfolding fieldsIn
-  field-missing f = rw (fields-are, select-false {X = Outcome (Header × ℕ)} {b = r .found} (ok (r .header, r .next .0)) (error 15 p) f)
+  field-missing f = rw (fields-are (error 15 p) (fields-missing (regionBits region) (8 * start) r e p f))
 
   module _ (f : r .found ≡ true) where
     found : readFields p (8 * start) (unpack (drop start region)) ≡ ok (r .header, r .next .0, drop (r .next .0) (regionBits region))
-    found = fields-are ∙ rw (select-true {X = Outcome (Header × ℕ)} {b = r .found} (ok (r .header, r .next .0)) (error 15 p) f)
+    found = fields-are (ok (r .header, r .next .0)) (fields-found (regionBits region) (8 * start) r e p f)
 
     pub not-padded : isPadding (drop (r .next .0) (regionBits region)) ≡ false → refusedHeader 15 p ≡ headerAnswer (fieldsIn region depth p start)
     unfolding fieldsIn
@@ -67,7 +68,7 @@ module _ (region : List ℕ) (depth p start : ℕ) (short : length region ≤ ma
         rule-broken a = rw (found, padded, none, a)
 
         pub header-read : hevcAllowed depth (r .header) ≡ true
-            → record { status = 0; offset = 0; header = r .header; next = length region } ≡ headerAnswer (fieldsIn region depth p start)
+            → record { status = 0; offset = bytePos 0; header = r .header; next = bytePos (length region) } ≡ headerAnswer (fieldsIn region depth p start)
         unfolding fieldsIn
         header-read a = rw (found, padded, none, a)
 

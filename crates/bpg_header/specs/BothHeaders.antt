@@ -5,16 +5,17 @@ use Prim.Native.Nat.{ℕ}
 use lib.ListN.{drop}
 use Rattle.bpg_codec.specs.Select.{select}
 use Rattle.bpg_codec.specs.Outcome.{Outcome, ok, error, _>>=_}
+use Rattle.bpg_bytes.specs.Positions.{bytePos}
 use Rattle.bpg_format.specs.declared.record.Header.{Header}
 use Rattle.bpg_format.specs.Zero.{zeroHeader}
 use Rattle.bpg_header.specs.declared.headers.HeadersReading.{HeadersReading}
 use Rattle.bpg_header.specs.Headers.{headerIn}
 
 abbrev pub refusedHeaders : (status offset : ℕ) → HeadersReading
-refusedHeaders s o = record { status = s; offset = o; alpha = zeroHeader; color = zeroHeader; next = 0 }
+refusedHeaders s o = record { status = s; offset = bytePos o; alpha = zeroHeader; color = zeroHeader; next = bytePos 0 }
 
 abbrev pub headersAnswer : Outcome (Header × Header × ℕ) → HeadersReading
-headersAnswer (ok x) = record { status = 0; offset = 0; alpha = x .0; color = x .1; next = x .2 }
+headersAnswer (ok x) = record { status = 0; offset = bytePos 0; alpha = x .0; color = x .1; next = bytePos (x .2) }
 headersAnswer (error s o) = refusedHeaders s o
 
 abbrev pub alphaIn : List ℕ → (present : Bool) (depth p : ℕ) → Outcome (Header × ℕ × List ℕ)

@@ -5,6 +5,7 @@ use lib.Dec.{leb}
 use lib.ListN.{length, drop}
 use Rattle.bpg_codec.specs.Outcome.{Outcome, ok, error, _>>=_, guard}
 use Rattle.bpg_codec.specs.Bits.{isPadding, unpack}
+use Rattle.bpg_bytes.specs.Positions.{bytePos}
 use Rattle.bpg_format.specs.Limits.{maxFile}
 use Rattle.bpg_format.specs.declared.record.Header.{Header}
 use Rattle.bpg_format.specs.Zero.{zeroHeader}
@@ -13,10 +14,10 @@ use Rattle.bpg_format.specs.Read.{readFields, readHeader}
 use Rattle.bpg_header.specs.declared.header.HeaderReading.{HeaderReading}
 
 abbrev pub refusedHeader : (status offset : ℕ) → HeaderReading
-refusedHeader s o = record { status = s; offset = o; header = zeroHeader; next = 0 }
+refusedHeader s o = record { status = s; offset = bytePos o; header = zeroHeader; next = bytePos 0 }
 
 abbrev pub headerAnswer : Outcome (Header × ℕ × List ℕ) → HeaderReading
-headerAnswer (ok x) = record { status = 0; offset = 0; header = x .0; next = x .1 }
+headerAnswer (ok x) = record { status = 0; offset = bytePos 0; header = x .0; next = bytePos (x .1) }
 headerAnswer (error s o) = refusedHeader s o
 
 -- what `readHeader` does after the length, which stands at p: the fields begin at `start` and take up the region

@@ -1,7 +1,7 @@
 // A HEVC header in its file: a length in bytes, and then the fields in bits.
 use crate::trailing;
-use bpg_bytes::BitPos;
 use bpg_bytes::BytePos;
+use bpg_bytes::first_bit;
 use bpg_fields::all_fields;
 use bpg_format::Header;
 use bpg_format::MAX_FILE;
@@ -18,30 +18,30 @@ ghost use Rattle.bpg_header.specs.Headers.{refusedHeader, headerAnswer, 
 // Status 0, the header, and the offset after it; or a refusal and zeros.
 pub struct HeaderReading {
     pub status: u8,
-    pub offset: usize,
+    pub offset: BytePos,
     pub header: Header,
-    pub next: usize,
+    pub next: BytePos,
 }
 
-fn refused(status: u8, offset: usize) -> HeaderReading
-    ensures { λ r. ⌜ r ≡ refusedHeader status offset ⌝ }
+fn refused(status: u8, offset: BytePos) -> HeaderReading
+    ensures { λ r. ⌜ r ≡ refusedHeader status (offset .0) ⌝ }
 {
     let header = zero_header();
     HeaderReading {
         status,
         offset,
         header,
-        next: 0,
+        next: BytePos(0),
     }
 }
 
 // The fields, which begin at `start` and take up the rest of the region; the header's length stands at `at`.
-fn with_size(region: &[u8], at: usize, start: usize, depth: u8) -> HeaderReading
+fn with_size(region: &[u8], at: BytePos, start: BytePos, depth: u8) -> HeaderReading
     requires { ⌜ count (now region) ≤ maxFile ⌝ }
-    requires { ⌜ start ≤ count (now region) ⌝ }
-    ensures { λ r. ⌜ r ≡ headerAnswer (fieldsIn (now (region .entry)) depth at start) ⌝ }
+    requires { ⌜ start .0 ≤ count (now region) ⌝ }
+    ensures { λ r. ⌜ r ≡ headerAnswer (fieldsIn (now (region .entry)) depth (at .0) (start .0)) ⌝ }
 {
-    let fields = all_fields::read(region, BitPos(8 * start));
+    let fields = all_fields::read(region, first_bit(start));
     if !fields.found {
         return refused(15, at);
     }
@@ -57,9 +57,9 @@ fn with_size(region: &[u8], at: usize, start: usize, depth: u8) -> HeaderReading
     }
     HeaderReading {
         status: 0,
-        offset: 0,
+        offset: BytePos(0),
         header,
-        next: region.len(),
+        next: BytePos(region.len()),
     }
 }
 
@@ -68,16 +68,16 @@ pub fn read(file: &[u8], at: BytePos, depth: u8) -> HeaderReading
     ensures { λ r. ⌜ r ≡ headerAnswer (headerIn (now (file .entry)) depth (at .0)) ⌝ }
 {
     if MAX_FILE < file.len() {
-        return refused(1, 0);
+        return refused(1, BytePos(0));
     }
     match ue7::read(file, at, 32) {
-        Number::Refused(status, offset) => refused(status, offset.0),
+        Number::Refused(status, offset) => refused(status, offset),
         Number::Value(size, start) => {
             let length = size as usize;
             if file.len() - start.0 < length {
-                return refused(2, at.0);
+                return refused(2, at);
             }
-            with_size(&file[0..start.0 + length], at.0, start.0, depth)
+            with_size(&file[0..start.0 + length], at, start, depth)
         }
     }
 }

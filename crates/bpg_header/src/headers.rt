@@ -11,14 +11,14 @@ ghost use Rattle.bpg_header.specs.BothHeaders.{alphaIn, refusedHeaders, 
 // Status 0, the two headers (the alpha plane's is zero where there is none), and the offset after them; or a refusal and zeros.
 pub struct HeadersReading {
     pub status: u8,
-    pub offset: usize,
+    pub offset: BytePos,
     pub alpha: Header,
     pub color: Header,
-    pub next: usize,
+    pub next: BytePos,
 }
 
-fn refused(status: u8, offset: usize) -> HeadersReading
-    ensures { λ r. ⌜ r ≡ refusedHeaders status offset ⌝ }
+fn refused(status: u8, offset: BytePos) -> HeadersReading
+    ensures { λ r. ⌜ r ≡ refusedHeaders status (offset .0) ⌝ }
 {
     let header = zero_header();
     HeadersReading {
@@ -26,7 +26,7 @@ fn refused(status: u8, offset: usize) -> HeadersReading
         offset,
         alpha: header,
         color: header,
-        next: 0,
+        next: BytePos(0),
     }
 }
 
@@ -40,9 +40,9 @@ fn alpha_header(file: &[u8], at: BytePos, present: bool, depth: u8) -> HeaderRea
     let header = zero_header();
     HeaderReading {
         status: 0,
-        offset: 0,
+        offset: BytePos(0),
         header,
-        next: at.0,
+        next: at,
     }
 }
 
@@ -54,17 +54,18 @@ pub fn read(file: &[u8], at: BytePos, alpha: bool, depth: u8) -> HeadersReading
     if first.status != 0 {
         return refused(first.status, first.offset);
     }
-    let second = header::read(file, BytePos(first.next), depth);
+    let second = header::read(file, first.next, depth);
     if second.status != 0 {
         return refused(second.status, second.offset);
     }
     let alpha_header = first.header;
     let color_header = second.header;
+    let next = second.next;
     HeadersReading {
         status: 0,
-        offset: 0,
+        offset: BytePos(0),
         alpha: alpha_header,
         color: color_header,
-        next: second.next,
+        next,
     }
 }

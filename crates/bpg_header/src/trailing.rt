@@ -1,6 +1,7 @@
 // The bits after a header's last field.
 use bpg_bits::bits;
 use bpg_bytes::BitPos;
+use bpg_bytes::byte_of;
 ghost use mathlib.Core.Path.{_≡_};
 ghost use lib.ListN.{drop};
 ghost use Rattle.bpg_codec.specs.Bits.{isPadding};
@@ -19,5 +20,6 @@ pub(crate) fn is_padding(region: &[u8], at: BitPos) -> bool
     if 8 <= left {
         return false;
     }
-    region[start / 8] % (1u8 << left) == 0
+    let byte = byte_of(at).0;
+    region[byte] % (1u8 << left) == 0
 }

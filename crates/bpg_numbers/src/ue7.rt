@@ -10,7 +10,7 @@ ghost use Rattle.bpg_codec.specs.Codec.{atOwn};
 ghost use Rattle.bpg_codec.specs.Parts.{guarded};
 ghost use Rattle.bpg_codec.specs.Buffer.{written, writtenEnd};
 ghost use Rattle.bpg_numbers.specs.Ue7.{ue7, ue7Bytes, notZero};
-ghost use Rattle.bpg_numbers.specs.Answers.{numberOutcome};
+ghost use Rattle.bpg_numbers.specs.Answers.{numberAnswer};
 
 // A number and the position after it, or the status of a refusal and the position that it is reported at.
 pub enum Number {
@@ -30,7 +30,7 @@ fn largest(n: u32) -> u64
 
 // The number of at most n bits at `at`; n above 32 counts as 32. Most numbers have one byte, so the first is read before the loop.
 pub fn read(region: &[u8], at: BytePos, n: u32) -> Number
-    ensures { λ r. ⌜ numberOutcome r ≡ located (ue7 (min n 32) .decode (at .0) (at .0) (drop (at .0) (now (region .entry)))) ⌝ }
+    ensures { λ r. ⌜ r ≡ numberAnswer (located (ue7 (min n 32) .decode (at .0) (at .0) (drop (at .0) (now (region .entry))))) ⌝ }
 {
     let start = at.0;
     let end = region.len();
@@ -67,7 +67,7 @@ pub fn read(region: &[u8], at: BytePos, n: u32) -> Number
 
 // The number at `at`, which is not 0: a 0 is refused with `status`, at the number.
 pub fn read_nonzero(region: &[u8], at: BytePos, n: u32, status: u8) -> Number
-    ensures { λ r. ⌜ numberOutcome r ≡ located (guarded (ue7 (min n 32)) notZero status atOwn .decode (at .0) (at .0) (drop (at .0) (now (region .entry)))) ⌝ }
+    ensures { λ r. ⌜ r ≡ numberAnswer (located (guarded (ue7 (min n 32)) notZero status atOwn .decode (at .0) (at .0) (drop (at .0) (now (region .entry))))) ⌝ }
 {
     match read(region, at, n) {
         Number::Refused(why, offset) => Number::Refused(why, offset),

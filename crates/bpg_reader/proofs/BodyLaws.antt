@@ -46,7 +46,7 @@ module _ (file : List ℕ) (short : length file ≤ maxFile) (head : Head) (know
   refuses s o e = content-refuses file s o (content-is ∙ e)
 
   module _ (b : Block) (block : b ≡ blockAnswer (h .end) (entriesOf h after)) where
-    pub entries-refused : b .status ≢ 0 → refusedReading (b .status) (b .offset) ≡ answerOf (readBody h after)
+    pub entries-refused : b .status ≢ 0 → refusedReading (b .status) (b .offset .0) ≡ answerOf (readBody h after)
     entries-refused n =
         refused-error (blockAnswer (h .end)) (λ r. r .status) (λ _. refl) (λ _ _. refl) (entriesOf h after) b block n λ s o w.
         rw (body-chain file short h, block, w)
@@ -81,7 +81,7 @@ module _ (file : List ℕ) (short : length file ≤ maxFile) (head : Head) (know
           abbrev found : Outcome (Header × Header × ℕ)
           found = headersIn file (hasAlpha (h .flags)) (bitDepth (h .flags)) (bodyStart h)
 
-          pub headers-refused : x .status ≢ 0 → refusedReading (x .status) (x .offset) ≡ answerOf (readBody h after)
+          pub headers-refused : x .status ≢ 0 → refusedReading (x .status) (x .offset .0) ≡ answerOf (readBody h after)
           headers-refused n =
               with-entries λ es w is.
               refused-error headersAnswer (λ r. r .status) (λ _. refl) (λ _ _. refl) found x headers n λ s o v.
@@ -98,12 +98,12 @@ module _ (file : List ℕ) (short : length file ≤ maxFile) (head : Head) (know
                 (λ s o v k. omega (arith, refuses s o (body-chain file short h ∙ rw (w, controlled es is, counts, v)) .0))
                 (λ hs v. use-parts es hs w is v (headers ∙ ap headersAnswer v) (body-chain file short h ∙ rw (w, controlled es is, counts, v)))
 
-            pub next-inside : x .next ≤ length file
+            pub next-inside : x .next .0 ≤ length file
             next-inside =
                 with-parts λ es hs w is v xs whole.
                 both-headers file short (h .flags) (bodyStart h) hs v λ q e1 e2.
                 let inside = alpha-inside file (bodyStart h) (hs .0, q, drop q file) (h .flags) block-inside e1 in
-                omega (arith, header-inside file q (hs .1, hs .2, drop (hs .2) file) (bitDepth (h .flags)) inside e2, ap (λ (r : HeadersReading). r .next) xs)
+                omega (arith, header-inside file q (hs .1, hs .2, drop (hs .2) file) (bitDepth (h .flags)) inside e2, ap (λ (r : HeadersReading). r .next .0) xs)
 
             pub min-cb-small : x .color .«log2_min_luma_coding_block_size_minus3» ≤ 3
             min-cb-small =
@@ -117,7 +117,7 @@ module _ (file : List ℕ) (short : length file ≤ maxFile) (head : Head) (know
             body-read =
                 with-parts λ es hs w is v xs whole.
                 both-headers file short (h .flags) (bodyStart h) hs v λ q e1 e2.
-                let inside : hs .2 ≤ length file = omega (arith, next-inside, ap (λ (r : HeadersReading). r .next) xs) in
+                let inside : hs .2 ≤ length file = omega (arith, next-inside, ap (λ (r : HeadersReading). r .next .0) xs) in
                 let blocks = block-starts file bytes h es (hs .0) (hs .1) (hs .2) w q e1 e2 (content-is ∙ whole) (head-facts file h known .end-inside) in
                 let starts = data-starts file bytes h es (hs .0) (hs .1) (hs .2) w q e1 e2 (content-is ∙ whole) inside in
                 rw (is, xs, whole, blocks, starts, length-drop (hs .2) file)

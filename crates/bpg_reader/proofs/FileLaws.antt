@@ -27,7 +27,7 @@ module _ (file : List ℕ) (short : length file ≤ maxFile) (head : Head) (read
   refused-with : (s o : ℕ) → readHead file ≡ error s o → readContent file ≡ error s o
   refused-with s o e = head-content file short ∙ rw e
 
-  pub head-refused : head .status ≢ 0 → refusedReading (head .status) (head .offset) ≡ readFile file
+  pub head-refused : head .status ≢ 0 → refusedReading (head .status) (head .offset .0) ≡ readFile file
   unfolding readFile
   head-refused n =
       refused-error headAnswer (λ r. r .status) (λ _. refl) (λ _ _. refl) (readHead file) head read n λ s o w.
@@ -40,6 +40,6 @@ module _ (file : List ℕ) (short : length file ≤ maxFile) (head : Head) (read
       (λ h w. w ∙ ap (λ (x : Head). ok (headFields x)) (sym (read ∙ ap headAnswer w)))
 
 pub body-answer : (file : List ℕ) → length file ≤ maxFile → (head : Head) → readHead file ≡ ok (headFields head)
-    → answerOf (readBody (headFields head) (drop (head .end) file)) ≡ readFile file
+    → answerOf (readBody (headFields head) (drop (head .end .0) file)) ≡ readFile file
 unfolding readFile
 body-answer file short head known = ap answerOf (sym (content-is file short head known))

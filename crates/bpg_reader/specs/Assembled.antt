@@ -13,14 +13,14 @@ use Rattle.bpg_header.specs.declared.headers.HeadersReading.{HeadersReading}
 abbrev pub assembledRecord : (len : ℕ) → Head → Block → HeadersReading → Record
 assembledRecord len h b x =
     record {
-      «pixel_format» = h .«pixel_format»;
-      «alpha1_flag» = h .«alpha1_flag»;
-      «bit_depth_minus_8» = h .«bit_depth_minus_8»;
-      «color_space» = h .«color_space»;
-      «extension_present_flag» = h .«extension_present_flag»;
-      «alpha2_flag» = h .«alpha2_flag»;
-      «limited_range_flag» = h .«limited_range_flag»;
-      «animation_flag» = h .«animation_flag»;
+      «pixel_format» = h .flags .«pixel_format»;
+      «alpha1_flag» = h .flags .«alpha1_flag»;
+      «bit_depth_minus_8» = h .flags .«bit_depth_minus_8»;
+      «color_space» = h .flags .«color_space»;
+      «extension_present_flag» = h .flags .«extension_present_flag»;
+      «alpha2_flag» = h .flags .«alpha2_flag»;
+      «limited_range_flag» = h .flags .«limited_range_flag»;
+      «animation_flag» = h .flags .«animation_flag»;
       «picture_width» = h .«picture_width»;
       «picture_height» = h .«picture_height»;
       «explicit_length» = notZero (h .«data_length»);
@@ -30,7 +30,7 @@ assembledRecord len h b x =
       «frame_period_num» = b .animation .«frame_period_num»;
       «frame_period_den» = b .animation .«frame_period_den»;
       headers = x .alpha ∷ x .color ∷ [];
-      «data» = range (x .next) (len - x .next);
+      «data» = range (x .next .0) (len - x .next .0);
     }
 
 abbrev pub assembledReading : (len : ℕ) → Head → Block → HeadersReading → Reading

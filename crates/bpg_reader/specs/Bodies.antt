@@ -13,30 +13,21 @@ use Rattle.bpg_format.specs.Rules.{hasLoop}
 use Rattle.bpg_format.specs.FileCodec.{loopOf, countsBody}
 use Rattle.bpg_format.specs.Read.{readEntries, readHeader, readAlphaHeader}
 use Rattle.bpg_head.specs.declared.head.Head.{Head}
+use Rattle.bpg_head.specs.FlagBytes.{flagFields}
 use Rattle.bpg_head.specs.Heads.{HeadFields}
 
 -- what a head that was read says
 abbrev pub headFields : Head → HeadFields
 headFields h =
     record {
-      flags =
-          record {
-            pixelFormat = h .«pixel_format»;
-            alpha1 = h .«alpha1_flag»;
-            bitDepthMinus8 = h .«bit_depth_minus_8»;
-            colorSpace = h .«color_space»;
-            extensionPresent = h .«extension_present_flag»;
-            alpha2 = h .«alpha2_flag»;
-            limitedRange = h .«limited_range_flag»;
-            animation = h .«animation_flag»;
-          };
+      flags = flagFields (h .flags);
       width = h .«picture_width»;
       height = h .«picture_height»;
       dataLength = h .«data_length»;
-      dataLengthAt = h .«data_length_at»;
+      dataLengthAt = h .«data_length_at» .0;
       extensionLength = h .«extension_length»;
-      extensionLengthAt = h .«extension_length_at»;
-      end = h .end;
+      extensionLengthAt = h .«extension_length_at» .0;
+      end = h .end .0;
     }
 
 -- item 4: the block fits, the entries; l is what is left after the head

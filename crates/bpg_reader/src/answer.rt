@@ -21,21 +21,21 @@ fn coded_size(size: u32, log2_size: u32) -> u64
 
 fn record(len: usize, head: Head, block: Block, both: HeadersReading) -> Record
     requires { ⌜ len ≤ maxFile ⌝ }
-    requires { ⌜ both .next ≤ len ⌝ }
+    requires { ⌜ both .next .0 ≤ len ⌝ }
     ensures { λ r. ⌜ r ≡ assembledRecord len head block both ⌝ }
 {
     let entries = block.entries;
     let alpha = both.alpha;
     let color = both.color;
     Record {
-        pixel_format: head.pixel_format,
-        alpha1_flag: head.alpha1_flag,
-        bit_depth_minus_8: head.bit_depth_minus_8,
-        color_space: head.color_space,
-        extension_present_flag: head.extension_present_flag,
-        alpha2_flag: head.alpha2_flag,
-        limited_range_flag: head.limited_range_flag,
-        animation_flag: head.animation_flag,
+        pixel_format: head.flags.pixel_format,
+        alpha1_flag: head.flags.alpha1_flag,
+        bit_depth_minus_8: head.flags.bit_depth_minus_8,
+        color_space: head.flags.color_space,
+        extension_present_flag: head.flags.extension_present_flag,
+        alpha2_flag: head.flags.alpha2_flag,
+        limited_range_flag: head.flags.limited_range_flag,
+        animation_flag: head.flags.animation_flag,
         picture_width: head.picture_width,
         picture_height: head.picture_height,
         explicit_length: head.data_length != 0,
@@ -46,8 +46,8 @@ fn record(len: usize, head: Head, block: Block, both: HeadersReading) -> Record
         frame_period_den: block.animation.frame_period_den,
         headers: [alpha, color],
         data: Range {
-            start: both.next as u32,
-            length: (len - both.next) as u32,
+            start: both.next.0 as u32,
+            length: (len - both.next.0) as u32,
         },
     }
 }
@@ -55,7 +55,7 @@ fn record(len: usize, head: Head, block: Block, both: HeadersReading) -> Record
 // The answer for a file of `len` bytes, all of whose parts were read.
 pub(crate) fn assemble(len: usize, head: Head, block: Block, both: HeadersReading) -> Reading
     requires { ⌜ len ≤ maxFile ⌝ }
-    requires { ⌜ both .next ≤ len ⌝ }
+    requires { ⌜ both .next .0 ≤ len ⌝ }
     requires { ⌜ both .color .«log2_min_luma_coding_block_size_minus3» ≤ 3 ⌝ }
     ensures { λ r. ⌜ r ≡ assembledReading len head block both ⌝ }
 {

@@ -25,21 +25,21 @@ ghost use Rattle.bpg_reader.specs.Bodies.{headFields, entriesOf, readBod
 // many values leave its loop no registers.
 fn entries(file: &[u8], head: Head) -> Block
     requires { ⌜ count (now file) ≤ maxFile ⌝ }
-    requires { ⌜ head .end ≤ count (now file) ⌝ }
-    ensures { λ r. ⌜ r ≡ blockAnswer (head .end) (entriesOf (headFields head) (drop (head .end) (now (file .entry)))) ⌝ }
+    requires { ⌜ head .end .0 ≤ count (now file) ⌝ }
+    ensures { λ r. ⌜ r ≡ blockAnswer (head .end .0) (entriesOf (headFields head) (drop (head .end .0) (now (file .entry)))) ⌝ }
 {
     let length = head.extension_length as usize;
-    if file.len() - head.end < length {
+    if file.len() - head.end.0 < length {
         return block::refused(2, head.extension_length_at);
     }
     if length == 0 {
         return block::none();
     }
-    let end = head.end + length;
-    if head.animation_flag {
-        return block::read(&file[0..end], BytePos(head.end));
+    let end = head.end.0 + length;
+    if head.flags.animation_flag {
+        return block::read(&file[0..end], head.end);
     }
-    block::read(&file[0..end], BytePos(head.end))
+    block::read(&file[0..end], head.end)
 }
 
 // Refusal 14: with the animation flag, an entry with tag 5 is there.
@@ -66,23 +66,28 @@ fn reaches_end(data_length: u32, size: usize) -> bool
 pub(crate) fn read(file: &[u8], head: Head) -> Reading
     requires { ⌜ count (now file) ≤ maxFile ⌝ }
     requires { ⌜ readHead (now file) ≡ ok (headFields head) ⌝ }
-    ensures { λ r. ⌜ r ≡ answerOf (readBody (headFields head) (drop (head .end) (now (file .entry)))) ⌝ }
+    ensures { λ r. ⌜ r ≡ answerOf (readBody (headFields head) (drop (head .end .0) (now (file .entry)))) ⌝ }
 {
     let block = entries(file, head);
     if block.status != 0 {
-        return reading_refused(block.status, block.offset);
+        return reading_refused(block.status, block.offset.0);
     }
-    if !control_fits(head.animation_flag, block.animated) {
+    if !control_fits(head.flags.animation_flag, block.animated) {
         return reading_refused(14, 5);
     }
-    let start = head.end + head.extension_length as usize;
+    let start = head.end.0 + head.extension_length as usize;
     if !reaches_end(head.data_length, file.len() - start) {
-        return reading_refused(10, head.data_length_at);
+        return reading_refused(10, head.data_length_at.0);
     }
-    let alpha = has_alpha(head.alpha1_flag, head.alpha2_flag);
-    let both = headers::read(file, BytePos(start), alpha, head.bit_depth_minus_8 + 8);
+    let alpha = has_alpha(head.flags.alpha1_flag, head.flags.alpha2_flag);
+    let both = headers::read(
+        file,
+        BytePos(start),
+        alpha,
+        head.flags.bit_depth_minus_8 + 8,
+    );
     if both.status != 0 {
-        return reading_refused(both.status, both.offset);
+        return reading_refused(both.status, both.offset.0);
     }
     answer::assemble(file.len(), head, block, both)
 }

@@ -16,7 +16,7 @@ pub fn read(file: &[u8]) -> Reading
     }
     let head = head::read(file);
     if head.status != 0 {
-        return reading_refused(head.status, head.offset);
+        return reading_refused(head.status, head.offset.0);
     }
     body::read(file, head)
 }

@@ -8,10 +8,13 @@ use lib.ListN.{length, take, drop, getD, length-take, length-drop}
 use lib.Pow.{pow-mono, pow-pos}
 use borrow.Author.Needs.{needs}
 use borrow.Author.Tests.{le-leb, lt-leb}
-use Rattle.bpg_codec.specs.Outcome.{ok, error, located}
+use Rattle.bpg_codec.specs.Codec.{decodeAt}
 use Rattle.bpg_codec.specs.Bits.{bit, number, numberFrom, unpack}
 use Rattle.bpg_codec.proofs.Bits.{bit-small, length-unpack}
 use Rattle.bpg_codec.proofs.Lists.{drop-next}
+use Rattle.bpg_bytes.specs.Positions.{bitPos}
+use Rattle.bpg_bits.specs.declared.bits.BitNumber.the-variants.{Value, Missing}
+use Rattle.bpg_bits.specs.Answers.{bitAnswer}
 use Rattle.bpg_bits.specs.BitNumbers.{regionBits, unsigned}
 use Rattle.bpg_bits.proofs.BitNumberLaws.{region-bit}
 use Rattle.bpg_bits.proofs.bits.read.Statement.{statement}
@@ -34,11 +37,11 @@ step l next past value b n h k e i =
     let m : past - next ≡ suc (past - (next + 1)) = omega arith in
     rw e (rw (m, drop-next l next false (omega arith)) at i)
 
-short : (l : List Bool) (at n i : ℕ) → length l - at < n → error 15 i ≡ located (unsigned n .decode i at (drop at l))
-short l at n i h = rw (lt-leb n (length (drop at l)) (rw length-drop h))
+short : (l : List Bool) (at n : ℕ) → length l - at < n → Missing ≡ bitAnswer (decodeAt l (unsigned n) 0 at)
+short l at n h = rw (lt-leb n (length (drop at l)) (rw length-drop h))
 
-found : (l : List Bool) (at n v i : ℕ) → n ≤ length l - at → v ≡ number (take n (drop at l)) → ok (v, at + n) ≡ located (unsigned n .decode i at (drop at l))
-found l at n v i h e = rw (le-leb n (length (drop at l)) (rw length-drop h), e)
+found : (l : List Bool) (at n v : ℕ) → n ≤ length l - at → v ≡ number (take n (drop at l)) → Value v (bitPos (at + n)) ≡ bitAnswer (decodeAt l (unsigned n) 0 at)
+found l at n v h e = rw (le-leb n (length (drop at l)) (rw length-drop h), e)
 
 ends : (l : List Bool) (next past value n : ℕ) → past ≤ next → numberFrom value (take (past - next) (drop next l)) ≡ n → value ≡ n
 ends l next past value n h i = let z : past - next ≡ 0 = omega arith in rw z at i
@@ -59,18 +62,9 @@ one-bit c =
     let st = c .before .before .before .before .before .before .before .before in
     omega (arith, c .bit-inside .ensures, bit-small (getD (unpack (st .args .region .now)) (c .before .before .loop .next) false))
 
-least-requires : tie.Need-least-requires Inv-loop μ-loop
-least-requires c κs = search needs
-
-count-requires : tie.Need-count-requires Inv-loop μ-loop
-count-requires c κs = search needs
-
-remaining-requires : tie.Need-remaining-requires Inv-loop μ-loop
-remaining-requires c κs = search needs
-
 returns : tie.Need-returns Inv-loop μ-loop
 returns c = let a = c .before .before .before .before .before .args in
-    λ i. short (regionBits (a .region .now)) (a .at .0) (min (a .n) 32) i (omega arith)
+    short (regionBits (a .region .now)) (a .at .0) (min (a .n) 32) (omega arith)
 
 add-past : tie.Need-add-past Inv-loop μ-loop
 add-past c = omega arith
@@ -108,15 +102,12 @@ loop-again c = let l = c .before .before .loop in
           (l .inv .3),
     )
 
-cast-t15 : tie.Need-cast-t15 Inv-loop μ-loop
-cast-t15 c = omega (arith, ending c)
-
 returns-2 : tie.Need-returns-2 Inv-loop μ-loop
 returns-2 c = let l = c .before .loop in
     let a = c .before .before .before .before .before .before .before .args in
     let w = c .before .before .before .before .before .least in
-    λ i. found (regionBits (a .region .now)) (a .at .0) (w .result) (l .value) i (omega arith) (ends (regionBits (a .region .now)) (l .next) _ (l .value) _ (c .loop-test .left) (l .inv .3))
-    ∙ ap (λ (n : ℕ). located (unsigned n .decode i (a .at .0) (drop (a .at .0) (regionBits (a .region .now))))) (w .ensures)
+    found (regionBits (a .region .now)) (a .at .0) (w .result) (l .value) (omega arith) (ends (regionBits (a .region .now)) (l .next) _ (l .value) _ (c .loop-test .left) (l .inv .3))
+    ∙ ap (λ (n : ℕ). bitAnswer (decodeAt (regionBits (a .region .now)) (unsigned n) 0 (a .at .0))) (w .ensures)
 
 pub read-spec : {M : Type 1} → statement M
 read-spec =
@@ -124,9 +115,9 @@ read-spec =
     (tie.spec
     Inv-loop
     μ-loop
-    least-requires
-    count-requires
-    remaining-requires
+    (λ c κs. search needs)
+    (λ c κs. search needs)
+    (λ c κs. search needs)
     returns
     add-past
     loop-holds
@@ -136,5 +127,5 @@ read-spec =
     add-next
     loop-less
     loop-again
-    cast-t15
+    (λ c. omega (arith, ending c))
     returns-2)

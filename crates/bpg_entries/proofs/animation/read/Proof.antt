@@ -1,4 +1,4 @@
--- `animation::read` meets its contract: each number is the next one's start, and a refusal is passed on. Assumes nothing.
+-- `animation::read` meets its contract: each number is the next one's start, and a refusal is passed on.
 use mathlib.Core.Path.{_≡_, _∙_}
 use mathlib.Core.List.{List}
 use Prim.Native.Nat.{ℕ}
@@ -13,42 +13,6 @@ use Rattle.bpg_numbers.proofs.ReadAt.{value-read, refusal-read}
 use Rattle.bpg_entries.proofs.AnimationLaws.{period-advances, as-period, period-limit, count-refused, num-refused, den-refused, all-read}
 use Rattle.bpg_entries.proofs.animation.read.Statement.{statement}
 use Rattle.bpg_entries.proofs.animation.read.Tie as tie
-
-read-requires : tie.Need-read-requires
-read-requires c κs = search needs
-
-enum-known-status : tie.Need-enum-known-status
-enum-known-status c = search needs
-
-refused-requires : tie.Need-refused-requires
-refused-requires c κs = search needs
-
-enum-known-count : tie.Need-enum-known-count
-enum-known-count c = search needs
-
-read-nonzero-requires : tie.Need-read-nonzero-requires
-read-nonzero-requires c κs = search needs
-
-enum-known-status-2 : tie.Need-enum-known-status-2
-enum-known-status-2 c = search needs
-
-refused-requires-2 : tie.Need-refused-requires-2
-refused-requires-2 c κs = search needs
-
-enum-known-num : tie.Need-enum-known-num
-enum-known-num c = search needs
-
-read-nonzero-requires-2 : tie.Need-read-nonzero-requires-2
-read-nonzero-requires-2 c κs = search needs
-
-enum-known-status-3 : tie.Need-enum-known-status-3
-enum-known-status-3 c = search needs
-
-refused-requires-3 : tie.Need-refused-requires-3
-refused-requires-3 c κs = search needs
-
-enum-known-den : tie.Need-enum-known-den
-enum-known-den c = search needs
 
 -- the loop count was read
 module _ (c : tie.After-known-told2) where
@@ -100,15 +64,6 @@ module _ (c : tie.After-known-told6) where
       let r = c .before .before .before in
       value-read period-advances (region (first second)) (after-num second) (r .read-nonzero2 .result) (as-period _ _ _ (r .read-nonzero2 .ensures)) _ _ (c .before .den .given .1)
 
-cast-t21 : tie.Need-cast-t21
-cast-t21 c = let a = first (second c) in omega (arith, ue7-limit 16 (at a) (at a) _ _ (count-is a))
-
-cast-t22 : tie.Need-cast-t22
-cast-t22 c = omega (arith, period-limit _ _ _ (after-num (second c)) (num-is (second c)))
-
-cast-t23 : tie.Need-cast-t23
-cast-t23 c = omega (arith, period-limit _ _ _ (after-den c) (den-is c))
-
 returns : tie.Need-returns
 returns c =
     let r = c .before .before .before .before in
@@ -141,21 +96,21 @@ pub read-spec : {M : Type 1} → statement M
 read-spec =
     tie.close
     (tie.spec
-    read-requires
-    enum-known-status
-    refused-requires
-    enum-known-count
-    read-nonzero-requires
-    enum-known-status-2
-    refused-requires-2
-    enum-known-num
-    read-nonzero-requires-2
-    enum-known-status-3
-    refused-requires-3
-    enum-known-den
-    cast-t21
-    cast-t22
-    cast-t23
+    (λ c κs. search needs)
+    (λ c. search needs)
+    (λ c κs. search needs)
+    (λ c. search needs)
+    (λ c κs. search needs)
+    (λ c. search needs)
+    (λ c κs. search needs)
+    (λ c. search needs)
+    (λ c κs. search needs)
+    (λ c. search needs)
+    (λ c κs. search needs)
+    (λ c. search needs)
+    (λ c. let a = first (second c) in omega (arith, ue7-limit 16 (at a) (at a) _ _ (count-is a)))
+    (λ c. omega (arith, period-limit _ _ _ (after-num (second c)) (num-is (second c))))
+    (λ c. omega (arith, period-limit _ _ _ (after-den c) (den-is c)))
     returns
     returns-2
     returns-3

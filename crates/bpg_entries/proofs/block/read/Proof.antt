@@ -9,6 +9,7 @@ use borrow.Author.Needs.{needs}
 use Rattle.bpg_codec.specs.Outcome.{Outcome, error}
 use Rattle.bpg_codec.specs.Lawful.{All, Byte}
 use Rattle.bpg_codec.proofs.Tokens.{all-bytes}
+use Rattle.bpg_bytes.specs.Positions.{bytePos}
 use Rattle.bpg_format.specs.Limits.{maxEntries}
 use Rattle.bpg_format.specs.declared.record.Entry.{Entry}
 use Rattle.bpg_format.specs.Content.{Extension}
@@ -25,7 +26,7 @@ use Rattle.bpg_entries.proofs.block.read.Tie as tie
 
 -- the block that the parts make
 abbrev made : List Entry → ℕ → Bool → Animation → Block
-made es n animated animation = record { status = 0; offset = 0; «entry_count» = n; entries = es; animated = animated; animation = animation }
+made es n animated animation = record { status = 0; offset = bytePos 0; «entry_count» = n; entries = es; animated = animated; animation = animation }
 
 abbrev Inv-loop : tie.InvT-loop
 Inv-loop region entries₀ entry-count₀ animated₀ animation₀ next₀ entries entry-count animated animation next =

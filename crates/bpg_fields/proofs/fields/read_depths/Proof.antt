@@ -1,12 +1,12 @@
 -- `fields::read_depths` meets its contract: one after the other. Assumes nothing.
-use mathlib.Core.Path.{_≡_, sym, ap, _∙_}
+use mathlib.Core.Path.{_≡_}
 use mathlib.Core.Bool.{Bool}
 use mathlib.Core.List.{List}
 use Prim.Native.Nat.{ℕ}
 use Rattle.bpg_codec.specs.Outcome.{ok}
 use Rattle.bpg_codec.specs.Codec.{decodeAt}
 use Rattle.bpg_bits.specs.BitNumbers.{regionBits, unsigned}
-use Rattle.bpg_bits.specs.Answers.{bitOutcome}
+use Rattle.bpg_bits.proofs.Items.{unsigned-items, bit-at}
 use Rattle.bpg_fields.proofs.FieldLaws.{depths-at}
 use borrow.Author.Needs.{needs}
 use Rattle.bpg_fields.proofs.fields.read_depths.Statement.{statement}
@@ -42,16 +42,16 @@ module _ (c : tie.After-known-told) where
   first = (c .before .luma .given .0 .0, c .before .luma .given .0 .1 .0 .0)
 
   first-is : (i : ℕ) → decodeAt bits (unsigned 4) i at ≡ ok first
-  first-is i = sym (c .before .before .before .read .ensures i) ∙ ap (bitOutcome i) (c .before .luma .given .1)
+  first-is i = bit-at (unsigned-items 4) bits at _ _ (c .before .before .before .read .ensures) (c .before .luma .given .1) i
 
 returns : tie.Need-returns
-returns c = λ i. let r = c .before .before in rw (depths-at, sym (r .read .ensures i) ∙ ap (bitOutcome i) (c .enum-told .given .1))
+returns c = λ i. let r = c .before .before in rw (depths-at, bit-at (unsigned-items 4) _ _ _ _ (r .read .ensures) (c .enum-told .given .1) i)
 
 returns-2 : tie.Need-returns-2
-returns-2 c = λ i. let r = c .before .before in rw (depths-at, first-is (r .before) i, sym (r .read2 .ensures i) ∙ ap (bitOutcome i) (c .enum-told2 .given .1))
+returns-2 c = λ i. let r = c .before .before in rw (depths-at, first-is (r .before) i, bit-at (unsigned-items 4) _ _ _ _ (r .read2 .ensures) (c .enum-told2 .given .1) i)
 
 returns-3 : tie.Need-returns-3
-returns-3 c = λ i. let r = c .before .before .before in rw (depths-at, first-is (r .before) i, sym (r .read2 .ensures i) ∙ ap (bitOutcome i) (c .before .chroma .given .1))
+returns-3 c = λ i. let r = c .before .before .before in rw (depths-at, first-is (r .before) i, bit-at (unsigned-items 4) _ _ _ _ (r .read2 .ensures) (c .before .chroma .given .1) i)
 
 pub read-depths-spec : {M : Type 1} → statement M
 read-depths-spec =

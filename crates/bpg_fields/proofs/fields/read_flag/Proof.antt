@@ -1,6 +1,5 @@
 -- `fields::read_flag` meets its contract: one bit, as a flag. Assumes nothing.
-use mathlib.Core.Path.{sym, ap, _∙_}
-use Rattle.bpg_bits.specs.Answers.{bitOutcome}
+use Rattle.bpg_bits.proofs.Items.{unsigned-items, bit-at}
 use Rattle.bpg_fields.proofs.FieldLaws.{flag-at}
 use borrow.Author.Needs.{needs}
 use Rattle.bpg_fields.proofs.fields.read_flag.Statement.{statement}
@@ -16,10 +15,10 @@ enum-known-value : tie.Need-enum-known-value
 enum-known-value c = search needs
 
 returns : tie.Need-returns
-returns c = λ i. let r = c .before .before in rw (flag-at, sym (r .read .ensures i) ∙ ap (bitOutcome i) (c .enum-told .given .1))
+returns c = λ i. let r = c .before .before in rw (flag-at, bit-at (unsigned-items 1) _ _ _ _ (r .read .ensures) (c .enum-told .given .1) i)
 
 returns-2 : tie.Need-returns-2
-returns-2 c = λ i. let r = c .before .before .before in rw (flag-at, sym (r .read .ensures i) ∙ ap (bitOutcome i) (c .before .value .given .1))
+returns-2 c = λ i. let r = c .before .before .before in rw (flag-at, bit-at (unsigned-items 1) _ _ _ _ (r .read .ensures) (c .before .value .given .1) i)
 
 pub read-flag-spec : {M : Type 1} → statement M
 read-flag-spec = tie.close (tie.spec read-requires enum-told enum-known-value returns returns-2)

@@ -6,7 +6,7 @@ use Prim.Native.Nat.{ℕ}
 use Rattle.bpg_codec.specs.Outcome.{ok}
 use Rattle.bpg_codec.specs.Codec.{decodeAt}
 use Rattle.bpg_bits.specs.BitNumbers.{regionBits}
-use Rattle.bpg_bits.specs.Answers.{bitOutcome}
+use Rattle.bpg_bits.proofs.Items.{expGolomb-items, bit-at}
 use Rattle.bpg_fields.specs.Fields.{codePair, pairOutcome}
 use Rattle.bpg_fields.proofs.FieldLaws.{sizes-at}
 use borrow.Author.Needs.{needs}
@@ -76,14 +76,14 @@ returns-3 c =
     λ i.
     let r = c .before .before in
     let b = r .before in
-    rw (sizes-at, first-is (before b) i, second-is b i, sym (r .read .ensures i) ∙ ap (bitOutcome i) (c .enum-told3 .given .1))
+    rw (sizes-at, first-is (before b) i, second-is b i, bit-at expGolomb-items _ _ _ _ (r .read .ensures) (c .enum-told3 .given .1) i)
 
 returns-4 : tie.Need-returns-4
 returns-4 c =
     λ i.
     let r = c .before .before .before in
     let b = r .before in
-    rw (sizes-at, first-is (before b) i, second-is b i, sym (r .read .ensures i) ∙ ap (bitOutcome i) (c .before .depth .given .1))
+    rw (sizes-at, first-is (before b) i, second-is b i, bit-at expGolomb-items _ _ _ _ (r .read .ensures) (c .before .depth .given .1) i)
 
 pub read-sizes-spec : {M : Type 1} → statement M
 read-sizes-spec =

@@ -6,7 +6,7 @@ use Prim.Native.Nat.{ℕ}
 use Rattle.bpg_codec.specs.Outcome.{ok}
 use Rattle.bpg_codec.specs.Codec.{decodeAt}
 use Rattle.bpg_bits.specs.BitNumbers.{regionBits}
-use Rattle.bpg_bits.specs.Answers.{bitOutcome}
+use Rattle.bpg_bits.proofs.Items.{unsigned-items, bit-at}
 use Rattle.bpg_format.specs.FileCodec.{oneBit}
 use Rattle.bpg_fields.specs.Fields.{flagOutcome}
 use Rattle.bpg_fields.proofs.FieldLaws.{sps-at}
@@ -47,10 +47,10 @@ returns : tie.Need-returns
 returns c = λ i. let r = c .before .before in rw (sps-at, sym (r .read-flag .ensures i) ∙ ap (flagOutcome i) (c .enum-told .given .1))
 
 returns-2 : tie.Need-returns-2
-returns-2 c = λ i. let r = c .before .before in rw (sps-at, first-is (r .before) i, sym (r .read .ensures i) ∙ ap (bitOutcome i) (c .enum-told2 .given .1))
+returns-2 c = λ i. let r = c .before .before in rw (sps-at, first-is (r .before) i, bit-at (unsigned-items 7) _ _ _ _ (r .read .ensures) (c .enum-told2 .given .1) i)
 
 returns-3 : tie.Need-returns-3
-returns-3 c = λ i. let r = c .before .before .before in rw (sps-at, first-is (r .before) i, sym (r .read .ensures i) ∙ ap (bitOutcome i) (c .before .seven .given .1))
+returns-3 c = λ i. let r = c .before .before .before in rw (sps-at, first-is (r .before) i, bit-at (unsigned-items 7) _ _ _ _ (r .read .ensures) (c .before .seven .given .1) i)
 
 pub read-sps-spec : {M : Type 1} → statement M
 read-sps-spec =

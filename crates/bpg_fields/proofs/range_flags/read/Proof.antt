@@ -1,5 +1,5 @@
 -- `range_flags::read` meets its contract: nine bits as a number, or nothing. Assumes nothing.
-use mathlib.Core.Path.{ap, _∙_}
+use mathlib.Core.Path.{refl, sym, ap, _∙_}
 use mathlib.Core.Bool.{Bool, false}
 use mathlib.Core.List.{List}
 use lib.ListN.{replicate}
@@ -8,6 +8,8 @@ use Rattle.bpg_codec.specs.Codec.{atItem}
 use Rattle.bpg_codec.specs.Bits.{Bit}
 use Rattle.bpg_codec.specs.Parts.{fixed}
 use Rattle.bpg_codec.proofs.Bits.{bits-zero}
+use Rattle.bpg_bits.specs.BitNumbers.{regionBits}
+use Rattle.bpg_bits.proofs.Items.{unsigned-items, bit-at}
 use Rattle.bpg_fields.proofs.FieldLaws.{absent-at, nine-present}
 use borrow.Author.Needs.{needs}
 use Rattle.bpg_fields.proofs.range_flags.read.Statement.{statement}
@@ -17,7 +19,10 @@ read-requires : tie.Need-read-requires
 read-requires c κs = search needs
 
 returns : tie.Need-returns
-returns c = λ i. nine-present _ i _ _ (c .before .if1 .taken) _ (c .read .ensures i)
+returns c =
+    λ i.
+    let a = c .before .before .before .args in
+    nine-present _ i _ _ (c .before .if1 .taken) _ (sym (bit-at (unsigned-items 9) (regionBits (a .region .now)) (a .at .0) _ _ (c .read .ensures) refl i))
 
 returns-2 : tie.Need-returns-2
 returns-2 c =

@@ -1,4 +1,4 @@
--- `sizes::word_at` meets its contract. The invariant: the bytes so far stand in the high bits of the word. Assumes nothing.
+-- `sizes::word_at` meets its contract. The invariant: the bytes so far stand in the high bits of the word.
 use mathlib.Core.Path.{_≡_, sym, _∙_}
 use mathlib.Core.List.{List}
 use Prim.Native.Nat.{ℕ, suc, _+_, _-_, _*_, _%_, _^_, _≤_, _<_}
@@ -20,7 +20,7 @@ abbrev μ-loop : tie.MeasureT-loop
 -- one more byte
 module _ (c : tie.After-wide Inv-loop μ-loop) where
   abbrev start : ℕ
-  start = c .before .before .before .before .before .before .args .start
+  start = c .before .before .before .before .before .before .args .at .0
 
   abbrev region : List ℕ
   region = c .before .before .before .before .before .before .args .region .now
@@ -51,7 +51,7 @@ least-requires c κs = search needs
 
 loop-holds : tie.Need-loop-holds Inv-loop μ-loop
 loop-holds c =
-    let e : c .before .before .args .start - c .before .before .args .start ≡ 0 = omega arith in
+    let e : c .before .before .args .at .0 - c .before .before .args .at .0 ≡ 0 = omega arith in
     (omega arith, omega arith, omega arith, rw (e, no-bytes))
 
 sub-free : tie.Need-sub-free Inv-loop μ-loop
@@ -87,7 +87,7 @@ returns : tie.Need-returns Inv-loop μ-loop
 returns c =
     let l = c .before .loop in
     let st = c .before .before .before .before in
-    word-is (drop (st .args .start) (st .args .region .now)) (l .next - st .args .start) (l .free) (l .inv .2) (rw length-drop (l .inv .1)) (l .word) (l .inv .3) (rw length-drop (λ h. omega arith))
+    word-is (drop (st .args .at .0) (st .args .region .now)) (l .next - st .args .at .0) (l .free) (l .inv .2) (rw length-drop (l .inv .1)) (l .word) (l .inv .3) (rw length-drop (λ h. omega arith))
 
 pub word-at-spec : {M : Type 1} → statement M
 word-at-spec =

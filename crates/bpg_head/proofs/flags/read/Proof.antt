@@ -1,4 +1,4 @@
--- `flags::read` meets its contract: each way out is a case of the first six bytes. Assumes nothing.
+-- `flags::read` meets its contract: each way out is a case of the first six bytes.
 use mathlib.Core.Path.{_≡_, sym, _∙_}
 use mathlib.Core.Bool.{true}
 use mathlib.Core.List.{List}
@@ -12,17 +12,8 @@ use Rattle.bpg_head.proofs.FlagLaws.{too-short, no-magic, no-format, no
 use Rattle.bpg_head.proofs.flags.read.Statement.{statement}
 use Rattle.bpg_head.proofs.flags.read.Tie as tie
 
-refused-requires : tie.Need-refused-requires
-refused-requires c κs = search needs
-
 returns : tie.Need-returns
 returns c = c .refused .ensures ∙ too-short _ (c .before .if1 .taken)
-
-has-magic-requires : tie.Need-has-magic-requires
-has-magic-requires c κs = search needs
-
-refused-requires-2 : tie.Need-refused-requires-2
-refused-requires-2 c κs = search needs
 
 returns-2 : tie.Need-returns-2
 returns-2 c =
@@ -37,34 +28,16 @@ module _ (c : tie.Else2) where
   has-magic : same magic (take 4 file) ≡ true
   has-magic = sym (c .before .has-magic .ensures) ∙ not-false _ (c .if2 .left)
 
-shared-slice-read-byte4 : tie.Need-shared-slice-read-byte4
-shared-slice-read-byte4 c = search needs
-
-shared-slice-read-byte5 : tie.Need-shared-slice-read-byte5
-shared-slice-read-byte5 c = search needs
-
-refused-requires-3 : tie.Need-refused-requires-3
-refused-requires-3 c κs = search needs
-
 returns-3 : tie.Need-returns-3
 returns-3 c =
     let m = c .before .before .before .before in
     c .refused3 .ensures ∙ no-format (file m) (m .before .before .if1 .left) (has-magic m) (c .before .if3 .taken)
-
-refused-requires-4 : tie.Need-refused-requires-4
-refused-requires-4 c κs = search needs
 
 returns-4 : tie.Need-returns-4
 returns-4 c =
     let f = c .before .before in
     let m = f .before .before .before in
     c .refused4 .ensures ∙ no-depth (file m) (m .before .before .if1 .left) (has-magic m) (f .if3 .left) (c .before .if4 .taken)
-
-color-space-allowed-requires : tie.Need-color-space-allowed-requires
-color-space-allowed-requires c κs = search needs
-
-refused-requires-5 : tie.Need-refused-requires-5
-refused-requires-5 c κs = search needs
 
 returns-5 : tie.Need-returns-5
 returns-5 c =
@@ -78,29 +51,31 @@ returns-5 c =
 
 returns-6 : tie.Need-returns-6
 returns-6 c =
-    let s = c .before in
+    let s = c .before .before in
     let d = s .before in
     let f = d .before in
     let m = f .before .before .before in
-    all-kept (file m) (m .before .before .if1 .left) (has-magic m) (f .if3 .left) (d .if4 .left)
-    (sym (s .color-space-allowed .ensures) ∙ not-false _ (c .if5 .left))
+    rw (c .from-bytes .ensures)
+    (all-kept (file m) (m .before .before .if1 .left) (has-magic m) (f .if3 .left) (d .if4 .left)
+    (sym (s .color-space-allowed .ensures) ∙ not-false _ (c .before .if5 .left)))
 
 pub read-spec : {M : Type 1} → statement M
 read-spec =
     tie.close
     (tie.spec
-    refused-requires
+    (λ c κs. search needs)
     returns
-    has-magic-requires
-    refused-requires-2
+    (λ c κs. search needs)
+    (λ c κs. search needs)
     returns-2
-    shared-slice-read-byte4
-    shared-slice-read-byte5
-    refused-requires-3
+    (λ c. search needs)
+    (λ c. search needs)
+    (λ c κs. search needs)
     returns-3
-    refused-requires-4
+    (λ c κs. search needs)
     returns-4
-    color-space-allowed-requires
-    refused-requires-5
+    (λ c κs. search needs)
+    (λ c κs. search needs)
     returns-5
+    (λ c κs. search needs)
     returns-6)

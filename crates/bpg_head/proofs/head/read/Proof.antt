@@ -1,4 +1,4 @@
--- `head::read` meets its contract: the first six bytes, width and height, and then `with_size`. Assumes nothing.
+-- `head::read` meets its contract: the first six bytes, width and height, and then `with_size`.
 use mathlib.Core.Path.{_≡_, _∙_}
 use mathlib.Core.List.{List}
 use Prim.Native.Nat.{ℕ}
@@ -12,12 +12,6 @@ use Rattle.bpg_head.proofs.HeadSteps.{no-flags, no-size, rest-read}
 use Rattle.bpg_head.proofs.head.read.Statement.{statement}
 use Rattle.bpg_head.proofs.head.read.Tie as tie
 
-read-requires : tie.Need-read-requires
-read-requires c κs = search needs
-
-refused-requires : tie.Need-refused-requires
-refused-requires c κs = search needs
-
 returns : tie.Need-returns
 returns c =
     let f = c .before .before .before in
@@ -28,14 +22,8 @@ module _ (c : tie.Else1) where
   abbrev file : List ℕ
   file = c .before .before .before .before .args .file .now
 
-  flags-are : readFlags file ≡ ok (flagFields (c .before .before .read .result))
+  flags-are : readFlags file ≡ ok (flagFields (c .before .before .read .result .flags))
   flags-are = flags-read file (c .before .before .read .result) (c .before .before .read .ensures) (c .if1 .left)
-
-read-requires-2 : tie.Need-read-requires-2
-read-requires-2 c κs = search needs
-
-refused-requires-2 : tie.Need-refused-requires-2
-refused-requires-2 c κs = search needs
 
 returns-2 : tie.Need-returns-2
 returns-2 c =
@@ -43,25 +31,22 @@ returns-2 c =
     let f = s .before in
     c .refused2 .ensures ∙ no-size (file f) _ (flags-are f) _ _ (size-refused (file f) 6 (s .read2 .result) (s .read2 .ensures) (c .before .if2 .taken))
 
-with-size-requires : tie.Need-with-size-requires
-with-size-requires c κs = search needs
-
 returns-3 : tie.Need-returns-3
 returns-3 c =
-    let s = c .before .before .before in
+    let s = c .before .before .before .before in
     let f = s .before in
     c .with-size .ensures
-    ∙ rest-read (file f) _ (flags-are f) _ _ _ (size-read (file f) 6 (s .read2 .result) (s .read2 .ensures) (c .before .if2 .left))
+    ∙ rest-read (file f) _ (flags-are f) _ _ _ (size-read (file f) 6 (s .read2 .result) (s .read2 .ensures) (c .before .before .if2 .left))
 
 pub read-spec : {M : Type 1} → statement M
 read-spec =
     tie.close
     (tie.spec
-    read-requires
-    refused-requires
+    (λ c κs. search needs)
+    (λ c κs. search needs)
     returns
-    read-requires-2
-    refused-requires-2
+    (λ c κs. search needs)
+    (λ c κs. search needs)
     returns-2
-    with-size-requires
+    (λ c κs. search needs)
     returns-3)

@@ -1,4 +1,4 @@
--- `size::read` meets its contract: the height stands after the width, and a refusal is passed on. Assumes nothing.
+-- `size::read` meets its contract: the height stands after the width, and a refusal is passed on.
 use mathlib.Core.Path.{_≡_, _∙_}
 use mathlib.Core.List.{List}
 use Prim.Native.Nat.{ℕ}
@@ -10,30 +10,6 @@ use Rattle.bpg_format.specs.FileCodec.{dimension}
 use Rattle.bpg_head.proofs.SizeLaws.{dimension-advances, as-dimension, width-refused, height-refused, both-read}
 use Rattle.bpg_head.proofs.size.read.Statement.{statement}
 use Rattle.bpg_head.proofs.size.read.Tie as tie
-
-read-nonzero-requires : tie.Need-read-nonzero-requires
-read-nonzero-requires c κs = search needs
-
-enum-known-status : tie.Need-enum-known-status
-enum-known-status c = search needs
-
-refused-requires : tie.Need-refused-requires
-refused-requires c κs = search needs
-
-enum-known-width : tie.Need-enum-known-width
-enum-known-width c = search needs
-
-read-nonzero-requires-2 : tie.Need-read-nonzero-requires-2
-read-nonzero-requires-2 c κs = search needs
-
-enum-known-status-2 : tie.Need-enum-known-status-2
-enum-known-status-2 c = search needs
-
-refused-requires-2 : tie.Need-refused-requires-2
-refused-requires-2 c κs = search needs
-
-enum-known-height : tie.Need-enum-known-height
-enum-known-height c = search needs
 
 -- the width was read
 module _ (c : tie.After-known-told2) where
@@ -80,14 +56,14 @@ pub read-spec : {M : Type 1} → statement M
 read-spec =
     tie.close
     (tie.spec
-    read-nonzero-requires
-    enum-known-status
-    refused-requires
-    enum-known-width
-    read-nonzero-requires-2
-    enum-known-status-2
-    refused-requires-2
-    enum-known-height
+    (λ c κs. search needs)
+    (λ c. search needs)
+    (λ c κs. search needs)
+    (λ c. search needs)
+    (λ c κs. search needs)
+    (λ c. search needs)
+    (λ c κs. search needs)
+    (λ c. search needs)
     returns
     returns-2
     returns-3)

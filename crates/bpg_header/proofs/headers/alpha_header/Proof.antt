@@ -1,5 +1,6 @@
 -- `headers::alpha_header` meets its contract. Assumes nothing.
 use mathlib.Core.Path.{ap, _∙_}
+use Rattle.bpg_bytes.specs.Positions.{bytePos}
 use Rattle.bpg_format.specs.declared.record.Header.{Header}
 use Rattle.bpg_header.proofs.BothHeaderLaws.{alpha-present, alpha-absent}
 use borrow.Author.Needs.{needs}
@@ -17,7 +18,7 @@ zero-header-requires c κs = search needs
 
 returns-2 : tie.Need-returns-2
 returns-2 c =
-    ap (λ (h : Header). record { status = 0; offset = 0; header = h; next = c .before .before .before .args .at .0 }) (c .zero-header .ensures)
+    ap (λ (h : Header). record { status = 0; offset = bytePos 0; header = h; next = c .before .before .before .args .at }) (c .zero-header .ensures)
     ∙ alpha-absent _ _ _ _ (c .before .if1 .left)
 
 pub alpha-header-spec : {M : Type 1} → statement M

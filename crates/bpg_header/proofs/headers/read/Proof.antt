@@ -31,9 +31,9 @@ returns-2 c =
 
 returns-3 : tie.Need-returns-3
 returns-3 c =
-    let t = c .before .before .before .before in
+    let t = c .before .before .before .before .before in
     let a = t .before .before .before in
-    both-read _ _ _ _ (a .alpha-header .result) (a .alpha-header .ensures) (t .before .if1 .left) (t .read .result) (t .read .ensures) (c .before .before .if2 .left)
+    both-read _ _ _ _ (a .alpha-header .result) (a .alpha-header .ensures) (t .before .if1 .left) (t .read .result) (t .read .ensures) (c .before .before .before .if2 .left)
 
 pub read-spec : {M : Type 1} → statement M
 read-spec =

@@ -1,5 +1,6 @@
 -- `headers::refused` meets its contract. Assumes nothing.
 use mathlib.Core.Path.{ap}
+use Rattle.bpg_bytes.specs.Positions.{bytePos}
 use Rattle.bpg_format.specs.declared.record.Header.{Header}
 use borrow.Author.Needs.{needs}
 use Rattle.bpg_header.proofs.headers.refused.Statement.{statement}
@@ -10,7 +11,7 @@ zero-header-requires c κs = search needs
 
 returns : tie.Need-returns
 returns c =
-    ap (λ (h : Header). record { status = c .before .args .status; offset = c .before .args .offset; alpha = h; color = h; next = 0 }) (c .zero-header .ensures)
+    ap (λ (h : Header). record { status = c .before .args .status; offset = c .before .args .offset; alpha = h; color = h; next = bytePos 0 }) (c .zero-header .ensures)
 
 pub refused-spec : {M : Type 1} → statement M
 refused-spec = tie.close (tie.spec zero-header-requires returns)

@@ -1,9 +1,9 @@
--- `trailing::is_padding` meets its contract. Assumes nothing.
-use mathlib.Core.Path.{_≡_, refl}
+-- `trailing::is_padding` meets its contract.
+use mathlib.Core.Path.{_≡_, ap}
 use mathlib.Core.List.{List}
 use Prim.Native.Nat.{ℕ, _-_, _*_, _%_, _^_, _<_}
 use native.Mathlib.Omega.{arith}
-use lib.ListN.{length, take, length-take}
+use lib.ListN.{length, take, getD, length-take}
 use lib.Pow.{pow-pos}
 use Rattle.bpg_codec.proofs.Bits.{length-unpack}
 use Rattle.bpg_bits.specs.BitNumbers.{regionBits}
@@ -27,28 +27,22 @@ module _ (c : tie.After-count) where
 -- and there are fewer than eight
 module _ (c : tie.After-shared-slice-known2) where
   abbrev start : tie.After-count
-  start = c .before .before .before
+  start = c .before .before .before .before
 
   abbrev left : ℕ
   left = start .count .result - at start
 
   some : 0 < left
-  some = omega (arith, c .before .before .if1 .left)
+  some = omega (arith, c .before .before .before .if1 .left)
 
   few : left < 8
-  few = omega (arith, c .before .if2 .left)
+  few = omega (arith, c .before .before .if2 .left)
 
   shifted : (1 * 2 ^ left) % 2 ^ 8 ≡ 2 ^ left
   shifted = one-shifted left 8 few
 
-count-requires : tie.Need-count-requires
-count-requires c κs = search needs
-
 returns : tie.Need-returns
 returns c = let k = c .before in none-left (regionBits (region k)) (at k) (omega (arith, c .if1 .taken, counted k))
-
-sub-left : tie.Need-sub-left
-sub-left c = search needs
 
 returns-2 : tie.Need-returns-2
 returns-2 c = let k = c .before .before in many-left (regionBits (region k)) (at k) (omega (arith, c .if2 .taken, counted k))
@@ -56,30 +50,28 @@ returns-2 c = let k = c .before .before in many-left (regionBits (region k)) (at
 shared-slice-read-result : tie.Need-shared-slice-read-result
 shared-slice-read-result c =
     let l = region (start c) in
-    omega (arith, c .before .before .if1 .left, counted (start c), length-unpack (take (2 ^ 60) l), length-take (2 ^ 60) l)
-
-cast-result : tie.Need-cast-result
-cast-result c = search needs
-
-shl-result : tie.Need-shl-result
-shl-result c = search needs
+    omega (arith, some c, counted (start c), c .before .byte-of .ensures, length-unpack (take (2 ^ 60) l), length-take (2 ^ 60) l)
 
 rem-result : tie.Need-rem-result
 rem-result c = rw (shifted c) (pow-pos (left c))
 
 returns-3 : tie.Need-returns-3
-returns-3 c = rw (shifted c) (decided (region (start c)) (at (start c)) (left c) _ (omega (arith, counted (start c))) (some c) (few c) refl)
+returns-3 c =
+    let l = region (start c) in
+    rw (shifted c)
+    (decided l (at (start c)) (left c) _ (omega (arith, counted (start c))) (some c) (few c) (ap (λ (k : ℕ). getD l k 0) (c .before .byte-of .ensures)))
 
 pub is-padding-spec : {M : Type 1} → statement M
 is-padding-spec =
     tie.close
     (tie.spec
-    count-requires
+    (λ c κs. search needs)
     returns
-    sub-left
+    (λ c. search needs)
     returns-2
+    (λ c κs. search needs)
     shared-slice-read-result
-    cast-result
-    shl-result
+    (λ c. search needs)
+    (λ c. search needs)
     rem-result
     returns-3)

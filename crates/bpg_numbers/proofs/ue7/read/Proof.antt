@@ -9,6 +9,7 @@ use lib.Pow.{pow-pos}
 use borrow.Author.Needs.{needs}
 use Rattle.bpg_codec.specs.Outcome.{Outcome, ok, error, Decoded, located}
 use Rattle.bpg_codec.proofs.Lists.{drop-next}
+use Rattle.bpg_numbers.specs.Answers.{numberAnswer}
 use Rattle.bpg_numbers.specs.Ue7.{ue7Rest, ue7Decode}
 use Rattle.bpg_numbers.proofs.Ue7Laws.{rest-end, rest-large, rest-last, rest-more, decode-end, decode-80, decode-rest}
 use Rattle.bpg_numbers.proofs.ue7.read.Statement.{statement}
@@ -81,13 +82,13 @@ some : (c : tie.After-largest Inv-loop μ-loop) → 0 < 2 ^ min (c .before .befo
 some c = pow-pos (min (c .before .before .before .before .before .args .n) 32)
 
 returns : tie.Need-returns Inv-loop μ-loop
-returns c = empty _ _ _ (omega arith)
+returns c = ap numberAnswer (empty _ _ _ (omega arith))
 
 shared-slice-read-first : tie.Need-shared-slice-read-first Inv-loop μ-loop
 shared-slice-read-first c = omega arith
 
 returns-2 : tie.Need-returns-2 Inv-loop μ-loop
-returns-2 c = marked _ _ _ (omega arith) (c .if2 .taken)
+returns-2 c = ap numberAnswer (marked _ _ _ (omega arith) (c .if2 .taken))
 
 largest-requires : tie.Need-largest-requires Inv-loop μ-loop
 largest-requires c κs = search needs
@@ -96,7 +97,7 @@ cast-low : tie.Need-cast-low Inv-loop μ-loop
 cast-low c = omega arith
 
 returns-3 : tie.Need-returns-3 Inv-loop μ-loop
-returns-3 c = first-large _ _ _ (omega arith) (c .before .before .if2 .left) (omega arith)
+returns-3 c = ap numberAnswer (first-large _ _ _ (omega arith) (c .before .before .if2 .left) (omega arith))
 
 cast-t15 : tie.Need-cast-t15 Inv-loop μ-loop
 cast-t15 c = omega arith
@@ -105,7 +106,7 @@ add-t16 : tie.Need-add-t16 Inv-loop μ-loop
 add-t16 c = omega arith
 
 returns-4 : tie.Need-returns-4 Inv-loop μ-loop
-returns-4 c = first-done _ _ _ (omega arith) (c .before .before .before .if2 .left) (omega (arith, some (c .before .before))) (omega arith)
+returns-4 c = ap numberAnswer (first-done _ _ _ (omega arith) (c .before .before .before .if2 .left) (omega (arith, some (c .before .before))) (omega arith))
 
 add-next : tie.Need-add-next Inv-loop μ-loop
 add-next c = omega arith
@@ -126,7 +127,7 @@ add-value : tie.Need-add-value Inv-loop μ-loop
 add-value c = omega arith
 
 returns-5 : tie.Need-returns-5 Inv-loop μ-loop
-returns-5 c = large _ _ _ _ _ (c .before .before .before .loop .inv .1) (omega arith) (omega arith)
+returns-5 c = ap numberAnswer (large _ _ _ _ _ (c .before .before .before .loop .inv .1) (omega arith) (omega arith))
 
 add-next-2 : tie.Need-add-next-2 Inv-loop μ-loop
 add-next-2 c = omega arith
@@ -135,7 +136,9 @@ cast-t23 : tie.Need-cast-t23 Inv-loop μ-loop
 cast-t23 c = omega arith
 
 returns-6 : tie.Need-returns-6 Inv-loop μ-loop
-returns-6 c = done _ _ _ _ _ (c .before .before .before .before .loop .inv .1) (omega arith) (omega (arith, some (c .before .before .before .before .before .before .before))) (omega arith)
+returns-6 c =
+    let l = c .before .before .before .before in
+    ap numberAnswer (done _ _ _ _ _ (l .loop .inv .1) (omega arith) (omega (arith, some (l .before .before .before))) (omega arith))
 
 loop-less : tie.Need-loop-less Inv-loop μ-loop
 loop-less c = omega arith
@@ -144,7 +147,7 @@ loop-again : tie.Need-loop-again Inv-loop μ-loop
 loop-again c = (omega arith, more _ _ _ _ _ (c .before .before .before .before .loop .inv .1) (omega arith) (omega (arith, some (c .before .before .before .before .before .before .before))) (omega arith))
 
 returns-7 : tie.Need-returns-7 Inv-loop μ-loop
-returns-7 c = cut _ _ _ _ _ (c .before .loop .inv .1) (omega arith)
+returns-7 c = ap numberAnswer (cut _ _ _ _ _ (c .before .loop .inv .1) (omega arith))
 
 pub read-spec : {M : Type 1} → statement M
 read-spec =

@@ -1,5 +1,5 @@
 -- `ue7::read_nonzero` meets its contract: the answer of `ue7::read`, and the status where its value is 0. Assumes nothing.
-use mathlib.Core.Path.{_≡_}
+use mathlib.Core.Path.{_≡_, ap}
 use mathlib.Core.Logic.{_≢_}
 use mathlib.Core.List.{List}
 use Prim.Native.Nat.{ℕ, min}
@@ -9,6 +9,7 @@ use borrow.Author.Tests.{eq-eqb, ne-eqb}
 use Rattle.bpg_codec.specs.Outcome.{ok, error, decoded, located}
 use Rattle.bpg_codec.specs.Codec.{atOwn}
 use Rattle.bpg_codec.specs.Parts.{guarded}
+use Rattle.bpg_numbers.specs.Answers.{numberAnswer}
 use Rattle.bpg_numbers.specs.Ue7.{ue7, notZero}
 use Rattle.bpg_numbers.proofs.Advances.{ue7-advances}
 use Rattle.bpg_numbers.proofs.ReadAt.{value-read, refusal-read}
@@ -60,15 +61,15 @@ module _ (c : tie.After-known-told2) where
   value-is = value-read (ue7-advances width) region at (r .read .result) (r .read .ensures) _ _ (c .before .value .given .1)
 
 returns : tie.Need-returns
-returns c = zero _ _ _ _ _ (after (c .before)) (value-is (c .before)) (c .if1 .taken)
+returns c = ap numberAnswer (zero _ _ _ _ _ (after (c .before)) (value-is (c .before)) (c .if1 .taken))
 
 returns-2 : tie.Need-returns-2
 returns-2 c =
     let r = c .before .before .before in
-    refused _ _ _ _ _ _ (refusal-read (ue7-advances (min (r .before .before .args .n) 32)) _ _ (r .read .result) (r .read .ensures) _ _ (c .before .why .given .1))
+    ap numberAnswer (refused _ _ _ _ _ _ (refusal-read (ue7-advances (min (r .before .before .args .n) 32)) _ _ (r .read .result) (r .read .ensures) _ _ (c .before .why .given .1)))
 
 returns-3 : tie.Need-returns-3
-returns-3 c = positive _ _ _ _ _ (after (c .before)) (value-is (c .before)) (c .if1 .left)
+returns-3 c = ap numberAnswer (positive _ _ _ _ _ (after (c .before)) (value-is (c .before)) (c .if1 .left))
 
 pub read-nonzero-spec : {M : Type 1} → statement M
 read-nonzero-spec =

@@ -50,7 +50,7 @@ module _ (c : tie.Else2) where
   accepted : entered .entries .result .status ≡ 0
   accepted = c .before .before .if1 .left
 
-  controlled : (not (head entered .«animation_flag») || entered .entries .result .animated) ≡ true
+  controlled : (not (head entered .flags .«animation_flag») || entered .entries .result .animated) ≡ true
   controlled = sym (c .before .control-fits .ensures) ∙ not-false _ (c .if2 .left)
 
   inside : bodyStart (headFields (head entered)) ≤ length (file entered)
