@@ -6,7 +6,7 @@ use Prim.Native.Nat.{ℕ, _+_}
 use lib.Dec.{ltb, leb}
 use lib.ListN.{length, take, drop}
 use Rattle.bpg_codec.specs.Select.{select}
-use Rattle.bpg_codec.specs.Outcome.{Outcome, ok, error, _>>=_, guard, located}
+use Rattle.bpg_codec.specs.Outcome.{Outcome, ok, error, _>>=_, guard, Decoded, decoded, located}
 use Rattle.bpg_codec.specs.Codec.{Codec, decodeAt, atItem}
 use Rattle.bpg_codec.specs.Bits.{Bit, number}
 use Rattle.bpg_codec.specs.Parts.{sequence, mapped, absent, fixed}
@@ -38,7 +38,7 @@ module _ {B : Type 0} (i : ℕ) where
 -- ---- the numbers
 
 pub unsigned-items : (n : ℕ) → Itemed (unsigned n)
-unsigned-items n = record { items = λ i p l. guard-items i (leb n (length l)) (ok (number (take n l), p + n, drop n l)) _ refl }
+unsigned-items n = record { items = λ i p l. guard-items i (leb n (length l)) (ok (decoded (number (take n l)) (p + n) (drop n l))) _ refl }
 
 prefix-items : (l : List Bool) (i z p : ℕ) → prefixDecode i z p l ≡ missingAt i (prefixDecode 0 z p l)
 unfolding prefixDecode
@@ -51,7 +51,7 @@ expGolomb-items =
     record {
       items = λ i p l.
           bind-items i (prefixDecode 0 0 p l) _ _ _ (prefix-items l i 0 p) λ x.
-          bind-items i (unsigned (x .0) .decode 0 (x .1) (x .2)) _ _ _ (unsigned-items (x .0) .items i (x .1) (x .2)) λ y.
+          bind-items i (unsigned (x .value) .decode 0 (x .next) (x .rest)) _ _ _ (unsigned-items (x .value) .items i (x .next) (x .rest)) λ y.
           refl;
     }
 
@@ -63,7 +63,7 @@ sequence-items {c} {d} hc hd =
     record {
       items = λ i p l.
           bind-items i (c .decode 0 p l) _ _ _ (hc .items i p l) λ x.
-          bind-items i (d (x .0) .decode 0 (x .1) (x .2)) _ _ _ (hd (x .0) .items i (x .1) (x .2)) λ y.
+          bind-items i (d (x .value) .decode 0 (x .next) (x .rest)) _ _ _ (hd (x .value) .items i (x .next) (x .rest)) λ y.
           refl;
     }
 
@@ -78,11 +78,11 @@ optional-items hc false e = record { items = λ i p l. refl }
 
 pub fixed-items : (n : ℕ) → Itemed (fixed Bit n 15 atItem)
 unfolding fixed
-fixed-items n = record { items = λ i p l. guard-items i (leb n (length l)) (ok (take n l, p + n, drop n l)) _ refl }
+fixed-items n = record { items = λ i p l. guard-items i (leb n (length l)) (ok (decoded (take n l) (p + n) (drop n l))) _ refl }
 
 -- ---- the answers
 
-located-items : {A S : Type 0} (i : ℕ) (m : Outcome (A × ℕ × List S)) → located (missingAt i m) ≡ missingAt i (located m)
+located-items : {A S : Type 0} (i : ℕ) (m : Outcome (Decoded S A)) → located (missingAt i m) ≡ missingAt i (located m)
 located-items i (ok x) = refl
 located-items i (error s o) = refl
 

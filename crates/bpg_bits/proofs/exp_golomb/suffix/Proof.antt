@@ -39,7 +39,7 @@ module _ (z p : ℕ) (l : List Bool) (r : BitNumber) (h : r ≡ bitAnswer (locat
   small : (low : ℕ) (next : BitPos) → r ≡ Value low next → low < 2 ^ z
   small low next e =
       unlocate (unsigned z .decode 0 p l) (sym (value-outcome r h low next e)) λ s k.
-      unsigned-lawful z .encodes 0 p l (all-bits l) low (next .0) s k .0
+      unsigned-lawful z .encodes 0 p l (all-bits l) (decoded low (next .0) s) k .0
 
 -- what `bits::read` answered
 module _ (c : tie.After-read) where
