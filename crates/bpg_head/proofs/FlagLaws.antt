@@ -1,5 +1,5 @@
 -- Reading the first six bytes, by the case that they fall into. Assumes nothing.
-use mathlib.Core.Path.{_≡_, refl, sym, ap, _∙_}
+use mathlib.Core.Path.{_≡_, refl, sym, ap, _∙_, subst}
 use mathlib.Core.Bool.{true, false, _&&_, and-true}
 use mathlib.Core.Logic.{_≢_}
 use mathlib.Core.List.{List, [], _∷_}
@@ -10,11 +10,12 @@ use lib.Dec.{eqb}
 use lib.ListN.{length, take, getD}
 use borrow.Author.Tests.{le-leb, lt-leb, eq-eqb, ne-eqb}
 use Rattle.bpg_codec.specs.Outcome.{Outcome, ok, error}
-use Rattle.bpg_codec.specs.Parts.{same}
+use Rattle.bpg_codec.specs.Lists.{same}
 use Rattle.bpg_bytes.specs.Positions.{bytePos}
 use Rattle.bpg_format.specs.Content.{Flags}
 use Rattle.bpg_format.specs.Syntax.{magic}
-use Rattle.bpg_format.specs.FileCodec.{flagsOf, colorSpaceAllowed, readFlags}
+use Rattle.bpg_format.specs.Tests.{colorSpaceAllowed}
+use Rattle.bpg_format.specs.Read.{flagsOf, readFlags, ReadingStatus}
 use Rattle.bpg_format.proofs.ReadingRefusals.{read-flags}
 use Rattle.bpg_head.specs.declared.flags.FlagsReading.{FlagsReading}
 use Rattle.bpg_head.specs.FlagBytes.{codedFlags, flagFields, refusedFlags, flagsAnswer}
@@ -104,4 +105,4 @@ module _ (l : List ℕ) (r : FlagsReading) (k : r ≡ flagsAnswer (readFlags l))
     where
       by : (m : Outcome Flags) → readFlags l ≡ m → r ≡ flagsAnswer m → m ≡ ok (flagFields (r .flags))
       by (ok f) e k = ap (λ (y : FlagsReading). ok (flagFields (y .flags))) (sym k)
-      by (error s o) e k = absurd (omega (arith, ap (λ (y : FlagsReading). y .status) k, read-flags l s o e .0))
+      by (error s o) e k = absurd (subst ReadingStatus (sym (ap (λ (y : FlagsReading). y .status) k) ∙ z) (read-flags l s o e))

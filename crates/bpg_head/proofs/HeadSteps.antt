@@ -3,13 +3,13 @@ use mathlib.Core.Path.{_≡_}
 use mathlib.Core.List.{List}
 use Prim.Native.Nat.{ℕ}
 use lib.ListN.{drop}
-use Rattle.bpg_codec.specs.Outcome.{Outcome, ok, error, _>>=_, located}
+use Rattle.bpg_codec.specs.Outcome.{Outcome, ok, error, _>>=_, decoded, located}
 use Rattle.bpg_codec.proofs.Outcome.{bind-assoc}
 use Rattle.bpg_numbers.specs.Ue7.{ue7}
 use Rattle.bpg_format.specs.Content.{Flags}
-use Rattle.bpg_format.specs.FileCodec.{readFlags}
+use Rattle.bpg_format.specs.Read.{readFlags, readHead}
 use Rattle.bpg_head.specs.Sizes.{readSize}
-use Rattle.bpg_head.specs.Heads.{readHead, readExtensionLength, afterSize, refusedHead, headAnswer}
+use Rattle.bpg_head.specs.Heads.{readExtensionLength, afterSize, refusedHead, headAnswer}
 
 -- ---- what follows width and height
 
@@ -18,7 +18,7 @@ module _ (region : List ℕ) (f : Flags) (width height p : ℕ) where
   unfolding afterSize
   length-refused s o e = rw e
 
-  module _ (size q : ℕ) (k : ue7 32 .decode p p (drop p region) ≡ ok (size, q, drop q region)) where
+  module _ (size q : ℕ) (k : ue7 32 .decode p p (drop p region) ≡ ok (decoded size q (drop q region))) where
     -- with the extension length, or its refusal
     pub length-read : (o : Outcome (ℕ × ℕ)) → o ≡ located (readExtensionLength (f .extensionPresent) q (drop q region))
         → headAnswer (o >>= λ x. ok (record { flags = f; width = width; height = height; dataLength = size; dataLengthAt = p; extensionLength = x .0; extensionLengthAt = q; end = x .1 }))
@@ -28,7 +28,7 @@ module _ (region : List ℕ) (f : Flags) (width height p : ℕ) where
 
 -- ---- the whole head
 
-in-steps : (l : List ℕ) → readHead l ≡ (readFlags l >>= λ f. readSize 6 (drop 6 l) >>= λ x. afterSize f (x .0 .0) (x .0 .1) (x .1) (x .2))
+in-steps : (l : List ℕ) → readHead l ≡ (readFlags l >>= λ f. readSize 6 (drop 6 l) >>= λ x. afterSize f (x .value .0) (x .value .1) (x .next) (x .rest))
 unfolding readHead readSize afterSize
 in-steps l = simp bind-assoc
 
@@ -40,6 +40,6 @@ module _ (l : List ℕ) where
     pub no-size : (s o : ℕ) → readSize 6 (drop 6 l) ≡ error s o → refusedHead s o ≡ headAnswer (readHead l)
     no-size s o e = rw (in-steps, k, e)
 
-    pub rest-read : (width height p : ℕ) → readSize 6 (drop 6 l) ≡ ok ((width, height), p, drop p l)
+    pub rest-read : (width height p : ℕ) → readSize 6 (drop 6 l) ≡ ok (decoded (width, height) p (drop p l))
         → headAnswer (afterSize f width height p (drop p l)) ≡ headAnswer (readHead l)
     rest-read width height p e = rw (in-steps, k, e)

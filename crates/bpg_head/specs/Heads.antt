@@ -1,54 +1,17 @@
 -- The head of a file (document 01, "Order of the file", items 1 to 3), up to the extension length as a number: whether the lengths fit the
--- file is not judged, and a file of any length is read. It is how `readContent` begins.
+-- file is not judged, and a file of any length is read. `readHead` says what is read; here is what the code answers of it.
 use mathlib.Core.Bool.{Bool}
 use mathlib.Core.List.{List}
 use Prim.Native.Nat.{ℕ}
-use lib.ListN.{drop}
-use Rattle.bpg_codec.specs.Select.{select}
-use Rattle.bpg_codec.specs.Outcome.{Outcome, ok, error, _>>=_, guard}
+use Rattle.bpg_codec.specs.Outcome.{Outcome, ok, error, _>>=_, Decoded}
 use Rattle.bpg_bytes.specs.Positions.{bytePos}
-use Rattle.bpg_numbers.specs.Ue7.{notZero}
+use Rattle.bpg_numbers.specs.Ue7.{ue7Decode}
 use Rattle.bpg_format.specs.Content.{Flags}
-use Rattle.bpg_format.specs.FileCodec.{readFlags}
-use Rattle.bpg_format.specs.Read.{number}
-use Rattle.bpg_head.specs.declared.head.Head.{Head}
+use Rattle.bpg_format.specs.Read.{ifPresent, Head}
+use Rattle.bpg_head.specs.declared.head.Head.{Head as HeadReading}
 use Rattle.bpg_head.specs.FlagBytes.{zeroFlags, codedFlags}
 
-pub record HeadFields : Type 0 where
-  pub flags : Flags
-  pub width : ℕ
-  pub height : ℕ
-  pub dataLength : ℕ
-  pub dataLengthAt : ℕ
-  -- 0 without the extension flag
-  pub extensionLength : ℕ
-  -- the offset after the data length
-  pub extensionLengthAt : ℕ
-  -- the offset after the head
-  pub end : ℕ
-
-unfoldable pub readHead : List ℕ → Outcome HeadFields
-readHead l =
-    readFlags l >>= λ f.
-    number 32 6 (drop 6 l) >>= λ width.
-    guard (notZero (width .0)) 9 6 >>= λ _.
-    number 32 (width .1) (width .2) >>= λ height.
-    guard (notZero (height .0)) 9 (width .1) >>= λ _.
-    number 32 (height .1) (height .2) >>= λ size.
-    select (f .extensionPresent) (number 32 (size .1) (size .2)) (ok (0, size .1, size .2)) >>= λ ext.
-    ok
-    (record {
-      flags = f;
-      width = width .0;
-      height = height .0;
-      dataLength = size .0;
-      dataLengthAt = height .1;
-      extensionLength = ext .0;
-      extensionLengthAt = size .1;
-      end = ext .1;
-    })
-
-abbrev pub refusedHead : (status offset : ℕ) → Head
+abbrev pub refusedHead : (status offset : ℕ) → HeadReading
 refusedHead s o =
     record {
       status = s;
@@ -63,7 +26,7 @@ refusedHead s o =
       end = bytePos 0;
     }
 
-abbrev pub headAnswer : Outcome HeadFields → Head
+abbrev pub headAnswer : Outcome Head → HeadReading
 headAnswer (ok h) =
     record {
       status = 0;
@@ -82,22 +45,22 @@ headAnswer (error s o) = refusedHead s o
 -- ---- the steps of `readHead` that functions of their own take
 
 -- the extension length, where the flag says that it is there
-abbrev pub readExtensionLength : (present : Bool) (p : ℕ) → List ℕ → Outcome (ℕ × ℕ × List ℕ)
-readExtensionLength present p l = select present (number 32 p l) (ok (0, p, l))
+abbrev pub readExtensionLength : (present : Bool) (p : ℕ) → List ℕ → Outcome (Decoded ℕ ℕ)
+readExtensionLength present = ifPresent present 0 (ue7Decode 32)
 
 -- what follows width and height
-unfoldable pub afterSize : Flags → (width height p : ℕ) → List ℕ → Outcome HeadFields
+unfoldable pub afterSize : Flags → (width height p : ℕ) → List ℕ → Outcome Head
 afterSize f width height p l =
-    number 32 p l >>= λ size.
-    readExtensionLength (f .extensionPresent) (size .1) (size .2) >>= λ ext.
+    ue7Decode 32 p l >>= λ size.
+    readExtensionLength (f .extensionPresent) (size .next) (size .rest) >>= λ block.
     ok
     (record {
       flags = f;
       width = width;
       height = height;
-      dataLength = size .0;
+      dataLength = size .value;
       dataLengthAt = p;
-      extensionLength = ext .0;
-      extensionLengthAt = size .1;
-      end = ext .1;
+      extensionLength = block .value;
+      extensionLengthAt = size .next;
+      end = block .next;
     })

@@ -4,9 +4,9 @@ use bpg_format::color_space_allowed;
 ghost use mathlib.Core.Path.{_≡_};
 ghost use Prim.Native.Nat.{_≤_};
 ghost use lib.ListN.{length, take};
-ghost use Rattle.bpg_codec.specs.Parts.{same};
+ghost use Rattle.bpg_codec.specs.Lists.{same};
 ghost use Rattle.bpg_format.specs.Syntax.{magic};
-ghost use Rattle.bpg_format.specs.FileCodec.{flagsOf, readFlags};
+ghost use Rattle.bpg_format.specs.Read.{flagsOf, readFlags};
 ghost use Rattle.bpg_head.specs.FlagBytes.{zeroFlags, codedFlags, refusedFlags, flagsAnswer};
 
 // The fields of byte 4 and byte 5.

@@ -11,8 +11,9 @@ ghost use mathlib.Core.Path.{_≡_};
 ghost use lib.ListN.{drop};
 ghost use Rattle.bpg_codec.specs.Outcome.{located};
 ghost use Rattle.bpg_numbers.specs.Answers.{numberAnswer};
+ghost use Rattle.bpg_format.specs.Read.{readHead};
 ghost use Rattle.bpg_head.specs.FlagBytes.{flagFields};
-ghost use Rattle.bpg_head.specs.Heads.{readHead, readExtensionLength, afterSize, refusedHead, headAnswer};
+ghost use Rattle.bpg_head.specs.Heads.{readExtensionLength, afterSize, refusedHead, headAnswer};
 
 // Status 0 and the fields as coded, with the offsets of the two lengths and the offset after the head; or a refusal and zeros.
 // Without the extension flag the extension length is 0, and its offset is where the head ends.

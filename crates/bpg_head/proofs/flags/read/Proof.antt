@@ -6,7 +6,7 @@ use Prim.Native.Nat.{ℕ}
 use lib.ListN.{take}
 use borrow.Author.Tests.{not-true, not-false}
 use borrow.Author.Needs.{needs}
-use Rattle.bpg_codec.specs.Parts.{same}
+use Rattle.bpg_codec.specs.Lists.{same}
 use Rattle.bpg_format.specs.Syntax.{magic}
 use Rattle.bpg_head.proofs.FlagLaws.{too-short, no-magic, no-format, no-depth, no-space, all-kept}
 use Rattle.bpg_head.proofs.flags.read.Statement.{statement}

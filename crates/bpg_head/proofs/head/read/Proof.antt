@@ -4,7 +4,7 @@ use mathlib.Core.List.{List}
 use Prim.Native.Nat.{ℕ}
 use borrow.Author.Needs.{needs}
 use Rattle.bpg_codec.specs.Outcome.{ok}
-use Rattle.bpg_format.specs.FileCodec.{readFlags}
+use Rattle.bpg_format.specs.Read.{readFlags}
 use Rattle.bpg_head.specs.FlagBytes.{flagFields}
 use Rattle.bpg_head.proofs.FlagLaws.{flags-refused, flags-read}
 use Rattle.bpg_head.proofs.SizeLaws.{size-refused, size-read}

@@ -1,16 +1,15 @@
 -- `head::read_extension_length` meets its contract.
 use mathlib.Core.Path.{sym, ap, _∙_}
-use mathlib.Core.List.{List}
 use Prim.Native.Nat.{ℕ}
 use borrow.Author.Needs.{needs}
-use Rattle.bpg_codec.specs.Outcome.{Outcome, located}
+use Rattle.bpg_codec.specs.Outcome.{Outcome, Decoded, located}
 use Rattle.bpg_codec.proofs.Select.{select-true, select-false}
 use Rattle.bpg_numbers.specs.declared.ue7.Number.{Number}
 use Rattle.bpg_numbers.specs.Answers.{numberAnswer}
 use Rattle.bpg_head.proofs.head.read_extension_length.Statement.{statement}
 use Rattle.bpg_head.proofs.head.read_extension_length.Tie as tie
 
-abbrev answer : Outcome (ℕ × ℕ × List ℕ) → Number
+abbrev answer : Outcome (Decoded ℕ ℕ) → Number
 answer m = numberAnswer (located m)
 
 returns : tie.Need-returns

@@ -4,7 +4,7 @@ use mathlib.Core.List.{List}
 use Prim.Native.Nat.{ℕ}
 use lib.ListN.{drop}
 use borrow.Author.Needs.{needs}
-use Rattle.bpg_codec.specs.Outcome.{ok, error}
+use Rattle.bpg_codec.specs.Outcome.{ok, error, decoded}
 use Rattle.bpg_numbers.specs.Ue7.{ue7}
 use Rattle.bpg_numbers.proofs.Advances.{ue7-advances}
 use Rattle.bpg_numbers.proofs.ReadAt.{value-outcome, refusal-outcome, value-read, refusal-read}
@@ -28,7 +28,7 @@ module _ (c : tie.After-known-told2) where
   abbrev after : ℕ
   after = c .before .length .given .0 .1 .0 .0
 
-  length-is : ue7 32 .decode (size .next .0) (size .next .0) (drop (size .next .0) file) ≡ ok (c .before .length .given .0 .0, after, drop after file)
+  length-is : ue7 32 .decode (size .next .0) (size .next .0) (drop (size .next .0) file) ≡ ok (decoded (c .before .length .given .0 .0) after (drop after file))
   length-is = let r = c .before .before .before in value-read (ue7-advances 32) file (size .next .0) (r .read .result) (r .read .ensures) _ _ (c .before .length .given .1)
 
 returns : tie.Need-returns

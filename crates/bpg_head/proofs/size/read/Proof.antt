@@ -4,7 +4,7 @@ use mathlib.Core.List.{List}
 use Prim.Native.Nat.{ℕ}
 use lib.ListN.{drop}
 use borrow.Author.Needs.{needs}
-use Rattle.bpg_codec.specs.Outcome.{ok}
+use Rattle.bpg_codec.specs.Outcome.{ok, decoded}
 use Rattle.bpg_numbers.proofs.ReadAt.{value-read, refusal-read}
 use Rattle.bpg_format.specs.FileCodec.{dimension}
 use Rattle.bpg_head.proofs.SizeLaws.{dimension-advances, as-dimension, width-refused, height-refused, both-read}
@@ -25,7 +25,7 @@ module _ (c : tie.After-known-told2) where
   abbrev after : ℕ
   after = c .before .width .given .0 .1 .0 .0
 
-  width-is : dimension .decode at at (drop at file) ≡ ok (width, after, drop after file)
+  width-is : dimension .decode at at (drop at file) ≡ ok (decoded width after (drop after file))
   width-is =
       let r = c .before .before .before in
       value-read dimension-advances file at (r .read-nonzero .result) (as-dimension _ _ _ (r .read-nonzero .ensures)) _ _ (c .before .width .given .1)
