@@ -8,7 +8,7 @@ use native.Mathlib.Omega.{arith}
 use lib.ListN.{length, drop, set, length-append, length-drop, drop-of-length-le}
 use lib.Seq.{length-take-le}
 use borrow.Author.Tests.{eqb-true, le-leb, lt-leb, eq-eqb, ne-eqb}
-use Rattle.bpg_codec.specs.Outcome.{Outcome, ok, error, _>>=_}
+use Rattle.bpg_codec.specs.Outcome.{Outcome, ok, error, _>>=_, Decoded}
 use Rattle.bpg_codec.specs.Lawful.{All, Byte}
 use Rattle.bpg_codec.proofs.Outcome.{bind-assoc}
 use Rattle.bpg_codec.proofs.Select.{select-true, select-false}
@@ -20,8 +20,7 @@ use Rattle.bpg_format.specs.Zero.{range}
 use Rattle.bpg_format.specs.Content.{Extension}
 use Rattle.bpg_format.specs.Syntax.{extensionBytes, blockBytes}
 use Rattle.bpg_format.specs.Rules.{isLoop, hasLoop}
-use Rattle.bpg_format.specs.FileCodec.{loopIn, loopOf}
-use Rattle.bpg_format.specs.Read.{readEntry, readEntries}
+use Rattle.bpg_format.specs.Read.{readLoop, loopFrom, loopOf, readEntry, readEntries}
 use Rattle.bpg_format.specs.Records.{entriesAt, padEntries}
 use Rattle.bpg_format.proofs.FileLaws.{extension-lawful}
 use Rattle.bpg_format.proofs.SyntaxLaws.{extension-encode}
@@ -49,7 +48,7 @@ module _ (seen : Bool) (p : ℕ) where
   entries-full (x ∷ l) h = refl
 
   entries-step : (m : ℕ) (l : List ℕ) → 0 < length l
-      → readEntries (suc m) seen p l ≡ (readEntry seen p l >>= λ e. readEntries m (seen || isLoop (e .0)) (e .1) (e .2) >>= λ es. ok (e .0 ∷ es))
+      → readEntries (suc m) seen p l ≡ (readEntry seen p l >>= λ e. readEntries m (seen || isLoop (e .value)) (e .next) (e .rest) >>= λ es. ok (e .value ∷ es))
   unfolding readEntries
   entries-step m [] h = absurd (omega arith)
   entries-step m (x ∷ l) h = refl
@@ -117,8 +116,8 @@ module _ (region : List ℕ) (p : ℕ) (block : Block) (next : ℕ) (inv : Readi
     full k = ap (blockAnswer p) (sym (all-full k))
 
     module _ (k : block .«entry_count» < maxEntries) where
-      after : Extension × ℕ × List ℕ → Outcome (List Extension)
-      after e = readEntries (maxEntries - (length (inv .done) + 1)) (hasLoop (inv .done) || isLoop (e .0)) (e .1) (e .2) >>= λ es. ok (inv .done ++ (e .0 ∷ es))
+      after : Decoded ℕ Extension → Outcome (List Extension)
+      after e = readEntries (maxEntries - (length (inv .done) + 1)) (hasLoop (inv .done) || isLoop (e .value)) (e .next) (e .rest) >>= λ es. ok (inv .done ++ (e .value ∷ es))
 
       step-seen : all ≡ (readEntry (hasLoop (inv .done)) next (drop next region) >>= after)
       unfolding after
@@ -130,13 +129,13 @@ module _ (region : List ℕ) (p : ℕ) (block : Block) (next : ℕ) (inv : Readi
       step = step-seen ∙ ap (λ (b : Bool). readEntry b next (drop next region) >>= after) (sym seen)
 
       pub stops : (s o : ℕ) → readEntry (block .animated) next (drop next region) ≡ error s o → refusedBlock s o ≡ blockAnswer p all
-      stops s o e = ap (blockAnswer p) (sym (step ∙ ap (λ (m : Outcome (Extension × ℕ × List ℕ)). m >>= after) e))
+      stops s o e = ap (blockAnswer p) (sym (step ∙ ap (λ (m : Outcome (Decoded ℕ Extension)). m >>= after) e))
 
       -- an entry was found and read
       module _ (bytes : All Byte region) (t : Step) (s : Started region next t)
           (d : readEntry (block .animated) next (drop next region) ≡ ok (entryOf region t)) where
         abbrev new : Extension
-        new = entryOf region t .0
+        new = entryOf region t .value
 
         abbrev start : ℕ
         start = t .entry .payload .start
@@ -150,7 +149,7 @@ module _ (region : List ℕ) (p : ℕ) (block : Block) (next : ℕ) (inv : Readi
         -- it is as long as its bytes
         next-new : t .next .0 ≡ next + length (extensionBytes new)
         next-new =
-            extension-lawful (block .animated) .encodes next next (drop next region) (all-drop Byte next region bytes) new (t .next .0) (drop (t .next .0) region)
+            extension-lawful (block .animated) .encodes next next (drop next region) (all-drop Byte next region bytes) (entryOf region t)
             (entry-chain (block .animated) next (drop next region) ∙ d) .2
             ∙ ap (λ (l : List ℕ). next + length l) (extension-encode (block .animated) new)
 
@@ -168,7 +167,7 @@ module _ (region : List ℕ) (p : ℕ) (block : Block) (next : ℕ) (inv : Readi
             ok ((inv .done ++ (new ∷ [])) ++ es))
         unfolding after
         rest-new =
-            step ∙ ap (λ (m : Outcome (Extension × ℕ × List ℕ)). m >>= after) d ∙ rw (length-append, has-snoc new (inv .done)) (simp append-assoc)
+            step ∙ ap (λ (m : Outcome (Decoded ℕ Extension)). m >>= after) d ∙ rw (length-append, has-snoc new (inv .done)) (simp append-assoc)
 
         entries-new : set (block .entries) (block .«entry_count») (t .entry) ≡ padEntries (entriesAt p (inv .done ++ (new ∷ [])))
         entries-new =
@@ -206,7 +205,7 @@ module _ (region : List ℕ) (p : ℕ) (block : Block) (next : ℕ) (inv : Readi
             read-on (block .animated) (block .animation) (rw (has-snoc new (inv .done), plain, or-false) seen)
             (rw (loop-snoc new (inv .done) (λ l. absurd (n (eqb-true (t .entry .tag) 5 l))), plain, select-false) (ap (λ (b : Block). b .animation) (inv .is)))
 
-        pub animates : t .entry .tag ≡ 5 → block .animated ≡ false → (a : Animation) → a ≡ loopAnswer (loopIn (new .payload)) → Reading region p (addedBlock block t true a) (t .next .0)
+        pub animates : t .entry .tag ≡ 5 → block .animated ≡ false → (a : Animation) → a ≡ loopAnswer (loopFrom (readLoop 0 (new .payload))) → Reading region p (addedBlock block t true a) (t .next .0)
         animates e first a k =
             let control = eq-eqb (t .entry .tag) 5 e in
             read-on true a (rw (has-snoc new (inv .done), control, or-true)) (rw (loop-snoc new (inv .done) (λ _. sym seen ∙ first), control, select-true) k)

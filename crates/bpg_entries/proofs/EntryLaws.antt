@@ -10,9 +10,8 @@ use lib.ListN.{length, take, drop, length-drop}
 use lib.Seq.{drop-drop}
 use borrow.Author.Tests.{le-leb, lt-leb, eq-eqb, ne-eqb}
 use Rattle.bpg_codec.specs.Select.{select}
-use Rattle.bpg_codec.specs.Outcome.{Outcome, ok, error, _>>=_, guard}
+use Rattle.bpg_codec.specs.Outcome.{Outcome, ok, error, _>>=_, guard, Decoded, decoded}
 use Rattle.bpg_codec.specs.Lawful.{All, Byte}
-use Rattle.bpg_codec.specs.Regions.{verbatim}
 use Rattle.bpg_codec.proofs.Select.{select-true, select-false}
 use Rattle.bpg_codec.proofs.Lists.{take-drop}
 use Rattle.bpg_codec.proofs.Tokens.{all-take, all-drop}
@@ -20,16 +19,16 @@ use Rattle.bpg_codec.proofs.Outcome.{ok-injective, unbind, unguard, bind-assoc}
 use Rattle.bpg_codec.proofs.Positions.{left-after, within}
 use Rattle.bpg_numbers.specs.Ue7.{ue7}
 use Rattle.bpg_numbers.proofs.Advances.{ue7-advances}
-use Rattle.bpg_format.specs.Content.{Extension}
-use Rattle.bpg_format.specs.FileCodec.{loopNumbers, loopFrom, loopIn}
-use Rattle.bpg_format.specs.Read.{readLoop, readEntry}
-use Rattle.bpg_format.proofs.FileLaws.{loopNumbers-lawful}
-use Rattle.bpg_format.proofs.Chain.{loop-chain, entry-chain}
+use Rattle.bpg_format.specs.Content.{Extension, Loop}
+use Rattle.bpg_format.specs.Rules.{noLoop}
+use Rattle.bpg_format.specs.Read.{readLoop, loopFrom, readEntry, ReadingStatus}
+use Rattle.bpg_format.proofs.Chain.{entry-chain}
+use Rattle.bpg_format.proofs.RuleLaws.{loop-reads, loop-read}
 use Rattle.bpg_format.proofs.ReadingRefusals.{loop-refuses, extension-refuses}
 use Rattle.bpg_entries.specs.declared.animation.Animation.{Animation}
 use Rattle.bpg_entries.specs.declared.entry.Step.{Step}
 use Rattle.bpg_entries.specs.Animations.{loopAnswer, animationAnswer}
-use Rattle.bpg_entries.specs.Entries.{entryStart, animationControl, refusedStep, foundStep, stepAnswer}
+use Rattle.bpg_entries.specs.Entries.{EntryHead, entryStart, animationControl, refusedStep, foundStep, stepAnswer}
 
 -- ---- the start of an entry
 
@@ -41,12 +40,12 @@ module _ (region : List ℕ) (at : ℕ) where
   unfolding entryStart
   tag-refused s o e = rw e
 
-  module _ (tag q : ℕ) (t : ue7 32 .decode at at (drop at region) ≡ ok (tag, q, drop q region)) where
+  module _ (tag q : ℕ) (t : ue7 32 .decode at at (drop at region) ≡ ok (decoded tag q (drop q region))) where
     pub size-refused : (s o : ℕ) → ue7 32 .decode q q (drop q region) ≡ error s o → refusedStep s o ≡ answer
     unfolding entryStart
     size-refused s o e = rw (t, e)
 
-    module _ (size start : ℕ) (z : ue7 32 .decode q q (drop q region) ≡ ok (size, start, drop start region)) where
+    module _ (size start : ℕ) (z : ue7 32 .decode q q (drop q region) ≡ ok (decoded size start (drop start region))) where
       pub too-long : length region - start < size → refusedStep 2 q ≡ answer
       unfolding entryStart
       too-long h = rw (t, z, lt-leb size (length (drop start region)) (omega (arith, length-drop start region)))
@@ -58,53 +57,44 @@ module _ (region : List ℕ) (at : ℕ) where
 -- ---- loop numbers
 
 -- they are the same wherever the payload stands
-loop-anywhere : (p : ℕ) (l : List ℕ) → All Byte l → (x : ℕ × (ℕ × (ℕ × List ℕ))) → loopNumbers .decode p p l ≡ ok x → loopIn l ≡ loopFrom (ok x)
-unfolding loopIn
-loop-anywhere p l b x d =
-    let v = loopNumbers-lawful .encodes p p l b x d in
-    ap (λ (m : List ℕ). loopFrom (loopNumbers .decode 0 0 m)) (v .1) ∙ ap loopFrom (loopNumbers-lawful .decodes x (v .0) 0 0)
+loop-anywhere : (p : ℕ) (l : List ℕ) → All Byte l → (x : Loop) → readLoop p l ≡ ok x → x ≡ loopFrom (readLoop 0 l)
+loop-anywhere p l b x d = let v = loop-read l b p x d in ap loopFrom (sym (loop-reads l x (v .0) (v .1) 0))
 
 -- `seen`: an entry with tag 5 stands before that at p
 module _ (seen : Bool) (p start : ℕ) (l : List ℕ) where
-  abbrev looped : Outcome (List ℕ)
-  looped = guard (not seen) 13 p >>= λ _. readLoop start l
-
-  control-steps : looped ≡ (animationControl seen p start l >>= λ _. ok l)
-  unfolding verbatim
-  control-steps = rw (← loop-chain start start l, bind-assoc)
-
   module _ (a : Animation) (k : a ≡ animationAnswer (animationControl seen p start l)) where
-    control-refused : a .status ≢ 0 → looped ≡ error (a .status) (a .offset .0)
-    control-refused n = control-steps ∙ by (animationControl seen p start l) k
+    control-refused : a .status ≢ 0 → animationControl seen p start l ≡ error (a .status) (a .offset .0)
+    control-refused n = by (animationControl seen p start l) k
       where
-        by : (m : Outcome (ℕ × (ℕ × (ℕ × List ℕ)))) → a ≡ animationAnswer m → (m >>= λ _. ok l) ≡ error (a .status) (a .offset .0)
+        by : (m : Outcome Loop) → a ≡ animationAnswer m → m ≡ error (a .status) (a .offset .0)
         by (ok x) k = absurd (n (ap (λ (y : Animation). y .status) k))
         by (error t o) k = ap (λ (y : Animation). error (y .status) (y .offset .0)) (sym k)
 
-    control-read : All Byte l → a .status ≡ 0 → (looped ≡ ok l) × (seen ≡ false) × (a ≡ loopAnswer (loopIn l))
-    control-read b z = by seen (loopNumbers .decode start start l) refl control-steps k
+    control-read : All Byte l → a .status ≡ 0 → (animationControl seen p start l ≡ ok (loopFrom (readLoop 0 l))) × (seen ≡ false) × (a ≡ loopAnswer (loopFrom (readLoop 0 l)))
+    control-read b z = by seen (readLoop start l) refl k
       where
-        by : (s : Bool) (m : Outcome (ℕ × (ℕ × (ℕ × List ℕ)))) → loopNumbers .decode start start l ≡ m → looped ≡ (guard (not s) 13 p >>= (λ _. m) >>= λ _. ok l)
-            → a ≡ animationAnswer (guard (not s) 13 p >>= λ _. m) → (looped ≡ ok l) × (s ≡ false) × (a ≡ loopAnswer (loopIn l))
-        by true m d c k = absurd (omega (arith, ap (λ (y : Animation). y .status) k))
-        by false (ok x) d c k = (c, refl, k ∙ ap loopAnswer (sym (loop-anywhere start l b x d)))
-        by false (error t o) d c k =
-            absurd (omega (arith, ap (λ (y : Animation). y .status) k, loop-refuses (λ t o. 1 ≤ t) (λ _. omega arith) (λ _. omega arith) (λ _. omega arith) (λ _. omega arith) .refuses start start l t o d))
+        by : (s : Bool) (m : Outcome Loop) → readLoop start l ≡ m → a ≡ animationAnswer (guard (not s) 13 p >>= λ _. m)
+            → ((guard (not s) 13 p >>= λ _. m) ≡ ok (loopFrom (readLoop 0 l))) × (s ≡ false) × (a ≡ loopAnswer (loopFrom (readLoop 0 l)))
+        by true m d k = absurd (omega (arith, ap (λ (y : Animation). y .status) k))
+        by false (ok x) d k = let e = loop-anywhere start l b x d in (ap ok e, refl, k ∙ ap loopAnswer e)
+        by false (error t o) d k =
+            absurd (omega (arith, ap (λ (y : Animation). y .status) k, loop-refuses (λ t o. 1 ≤ t) (λ _. omega arith) (λ _. omega arith) (λ _. omega arith) (λ _. omega arith) start l t o d))
 
 -- ---- an entry, after its start
 
 -- a second entry with tag 5 is refused before its numbers are read
-once : (s b : Bool) (p : ℕ) {X : Type 0} (m n : Outcome (List ℕ)) (k : List ℕ → Outcome X)
+once : (s b : Bool) (p : ℕ) {X : Type 0} (m n : Outcome Loop) (k : Loop → Outcome X)
     → (guard (not (s && b)) 13 p >>= λ _. select b m n >>= k) ≡ (select b (guard (not s) 13 p >>= λ _. m) n >>= k)
 unfolding select
 once true true p m n k = refl
 once true false p m n k = refl
 once false b p m n k = refl
 
-abbrev entered : Bool → ℕ → ℕ × ℕ × ℕ × List ℕ → Outcome (Extension × ℕ × List ℕ)
+abbrev entered : Bool → ℕ → Decoded ℕ EntryHead → Outcome (Decoded ℕ Extension)
 entered seen p x =
-    select (eqb (x .0) 5) (looped seen p (x .2) (take (x .1) (x .3))) (ok (take (x .1) (x .3))) >>= λ payload.
-    ok (record { tag = x .0; payload = payload }, x .2 + x .1, drop (x .1) (x .3))
+    let payload = take (x .value .size) (x .rest) in
+    select (eqb (x .value .tag) 5) (animationControl seen p (x .next) payload) (ok noLoop) >>= λ _.
+    ok (decoded (record { tag = x .value .tag; payload = payload }) (x .next + x .value .size) (drop (x .value .size) (x .rest)))
 
 entry-steps : (seen : Bool) (p : ℕ) (l : List ℕ) → readEntry seen p l ≡ (entryStart p l >>= entered seen p)
 unfolding readEntry entryStart
@@ -114,57 +104,56 @@ entry-steps seen p l = simp (once, bind-assoc)
 abbrev payloadOf : List ℕ → Step → List ℕ
 payloadOf region t = take (t .entry .payload .length) (drop (t .entry .payload .start) region)
 
-abbrev pub entryOf : List ℕ → Step → Extension × ℕ × List ℕ
-entryOf region t = (record { tag = t .entry .tag; payload = payloadOf region t }, t .next .0, drop (t .next .0) region)
+abbrev pub entryOf : List ℕ → Step → Decoded ℕ Extension
+entryOf region t = decoded (record { tag = t .entry .tag; payload = payloadOf region t }) (t .next .0) (drop (t .next .0) region)
 
 -- it lies in the region
 pub record Started (region : List ℕ) (p : ℕ) (t : Step) : Type 0 where
-  pub is : entryStart p (drop p region) ≡ ok (t .entry .tag, t .entry .payload .length, t .entry .payload .start, drop (t .entry .payload .start) region)
+  pub is : entryStart p (drop p region)
+      ≡ ok (decoded (record { tag = t .entry .tag; size = t .entry .payload .length }) (t .entry .payload .start) (drop (t .entry .payload .start) region))
   pub next : t .next .0 ≡ t .entry .payload .start + t .entry .payload .length
   pub inside : t .next .0 ≤ length region
 
-start-inside : (region : List ℕ) (p : ℕ) (x : ℕ × ℕ × ℕ × List ℕ) → p ≤ length region → entryStart p (drop p region) ≡ ok x
-    → (x .3 ≡ drop (x .2) region) × (x .2 + x .1 ≤ length region)
+start-inside : (region : List ℕ) (p : ℕ) (x : Decoded ℕ EntryHead) → p ≤ length region → entryStart p (drop p region) ≡ ok x
+    → (x .rest ≡ drop (x .next) region) × (x .next + x .value .size ≤ length region)
 unfolding entryStart
 start-inside region p x h e =
     unbind (ue7 32 .decode p p (drop p region)) _ e λ tag e1 e2.
-    unbind (ue7 32 .decode (tag .1) (tag .1) (tag .2)) _ e2 λ size e3 e4.
-    unguard (leb (size .0) (length (size .2))) 2 (tag .1) _ e4 λ room e5.
-    let d = subst (λ (l : List ℕ). ue7 32 .decode (tag .1) (tag .1) l ≡ ok size) (left-after (ue7-advances 32) region p p tag e1) e3 in
-    let left = left-after (ue7-advances 32) region (tag .1) (tag .1) size d in
-    let start = within (ue7-advances 32) region (tag .1) (tag .1) (within (ue7-advances 32) region p p h tag e1) size d in
-    subst (λ (y : ℕ × ℕ × ℕ × List ℕ). (y .3 ≡ drop (y .2) region) × (y .2 + y .1 ≤ length region)) (ok-injective e5)
-    (left, omega (arith, start, leb→le (size .0) (length (size .2)) room, ap length left, length-drop (size .1) region))
+    unbind (ue7 32 .decode (tag .next) (tag .next) (tag .rest)) _ e2 λ size e3 e4.
+    unguard (leb (size .value) (length (size .rest))) 2 (tag .next) _ e4 λ room e5.
+    let d = subst (λ (l : List ℕ). ue7 32 .decode (tag .next) (tag .next) l ≡ ok size) (left-after (ue7-advances 32) region p p tag e1) e3 in
+    let left = left-after (ue7-advances 32) region (tag .next) (tag .next) size d in
+    let start = within (ue7-advances 32) region (tag .next) (tag .next) (within (ue7-advances 32) region p p h tag e1) size d in
+    subst (λ (y : Decoded ℕ EntryHead). (y .rest ≡ drop (y .next) region) × (y .next + y .value .size ≤ length region)) (ok-injective e5)
+    (left, omega (arith, start, leb→le (size .value) (length (size .rest)) room, ap length left, length-drop (size .next) region))
 
 module _ (region : List ℕ) (seen : Bool) (p : ℕ) where
-  abbrev entry : Outcome (Extension × ℕ × List ℕ)
+  abbrev entry : Outcome (Decoded ℕ Extension)
   entry = readEntry seen p (drop p region)
 
-  abbrev step : Outcome (ℕ × ℕ × ℕ × List ℕ)
+  abbrev step : Outcome (Decoded ℕ EntryHead)
   step = entryStart p (drop p region)
 
   module _ (t : Step) (e : t ≡ stepAnswer step) where
     pub step-refused : t .status ≢ 0 → entry ≡ error (t .status) (t .offset .0)
     step-refused n = entry-steps seen p (drop p region) ∙ by step e
       where
-        by : (m : Outcome (ℕ × ℕ × ℕ × List ℕ)) → t ≡ stepAnswer m → (m >>= entered seen p) ≡ error (t .status) (t .offset .0)
+        by : (m : Outcome (Decoded ℕ EntryHead)) → t ≡ stepAnswer m → (m >>= entered seen p) ≡ error (t .status) (t .offset .0)
         by (ok x) e = absurd (n (ap (λ (y : Step). y .status) e))
         by (error s o) e = ap (λ (y : Step). error (y .status) (y .offset .0)) (sym e)
 
     pub step-started : p ≤ length region → t .status ≡ 0 → Started region p t
     step-started h z = by step refl e
       where
-        by : (m : Outcome (ℕ × ℕ × ℕ × List ℕ)) → step ≡ m → t ≡ stepAnswer m → Started region p t
+        by : (m : Outcome (Decoded ℕ EntryHead)) → step ≡ m → t ≡ stepAnswer m → Started region p t
         by (ok x) d e =
             let i = start-inside region p x h d in
-            subst (Started region p) (sym e) (record { is = d ∙ ap (λ (l : List ℕ). ok (x .0, x .1, x .2, l)) (i .0); next = refl; inside = i .1 })
+            subst (Started region p) (sym e) (record { is = d ∙ ap (λ (l : List ℕ). ok (decoded (x .value) (x .next) l)) (i .0); next = refl; inside = i .1 })
         by (error s o) d e =
-            absurd (omega (
-              arith,
-              ap (λ (y : Step). y .status) e,
-              extension-refuses seen .refuses p p (drop p region) s o
-                  (entry-chain seen p (drop p region) ∙ entry-steps seen p (drop p region) ∙ ap (λ (m : Outcome (ℕ × ℕ × ℕ × List ℕ)). m >>= entered seen p) d) .0,
-            ))
+            absurd
+            (subst ReadingStatus (sym (ap (λ (y : Step). y .status) e) ∙ z)
+            (extension-refuses seen .refuses p p (drop p region) s o
+            (entry-chain seen p (drop p region) ∙ entry-steps seen p (drop p region) ∙ ap (λ (m : Outcome (Decoded ℕ EntryHead)). m >>= entered seen p) d)))
 
   module _ (t : Step) (s : Started region p t) where
     abbrev start : ℕ
@@ -174,7 +163,7 @@ module _ (region : List ℕ) (seen : Bool) (p : ℕ) where
     bytes = payloadOf region t
 
     entry-is : entry
-        ≡ (select (eqb (t .entry .tag) 5) (looped seen p start bytes) (ok bytes) >>= λ l. ok (record { tag = t .entry .tag; payload = l }, t .next .0, drop (t .next .0) region))
+        ≡ (select (eqb (t .entry .tag) 5) (animationControl seen p start bytes) (ok noLoop) >>= λ _. ok (entryOf region t))
     entry-is = rw (entry-steps seen p (drop p region), s .is, drop-drop, s .next)
 
     pub plain-read : t .entry .tag ≢ 5 → entry ≡ ok (entryOf region t)
@@ -188,7 +177,7 @@ module _ (region : List ℕ) (seen : Bool) (p : ℕ) where
       pub numbers-refused : a .status ≢ 0 → entry ≡ error (a .status) (a .offset .0)
       numbers-refused n = entry-is ∙ rw (eq-eqb (t .entry .tag) 5 e, select-true, control-refused seen p start bytes a answers n)
 
-      pub numbers-read : All Byte region → a .status ≡ 0 → (entry ≡ ok (entryOf region t)) × (seen ≡ false) × (a ≡ loopAnswer (loopIn bytes))
+      pub numbers-read : All Byte region → a .status ≡ 0 → (entry ≡ ok (entryOf region t)) × (seen ≡ false) × (a ≡ loopAnswer (loopFrom (readLoop 0 bytes)))
       numbers-read b z =
           let l = control-read seen p start bytes a answers (all-take Byte (t .entry .payload .length) (drop start region) (all-drop Byte start region b)) z in
           (entry-is ∙ rw (eq-eqb (t .entry .tag) 5 e, select-true, l .0), l .1, l .2)

@@ -14,7 +14,7 @@ use Rattle.bpg_format.specs.Zero.{range, zeroEntry}
 use Rattle.bpg_format.specs.Content.{Extension, Loop}
 use Rattle.bpg_format.specs.Syntax.{extensionBytes, blockBytes}
 use Rattle.bpg_format.specs.Rules.{isLoop, hasLoop}
-use Rattle.bpg_format.specs.FileCodec.{loopOf, loopIn}
+use Rattle.bpg_format.specs.Read.{readLoop, loopFrom, loopOf}
 use Rattle.bpg_format.specs.Records.{entriesAt, padEntries}
 
 earlier : (a b c : Bool) → (b ≡ true → (a || c) ≡ false) → (p q r s : Loop) → ((b ≡ true → c ≡ false) → q ≡ select b r s)
@@ -56,10 +56,10 @@ module _ (e : Extension) where
   has-snoc (x ∷ es) = rw (has-snoc es, or-assoc)
 
   -- the last has tag 5 only where none before it has
-  pub loop-snoc : (es : List Extension) → (isLoop e ≡ true → hasLoop es ≡ false) → loopOf (es ++ one) ≡ select (isLoop e) (loopIn (e .payload)) (loopOf es)
+  pub loop-snoc : (es : List Extension) → (isLoop e ≡ true → hasLoop es ≡ false) → loopOf (es ++ one) ≡ select (isLoop e) (loopFrom (readLoop 0 (e .payload))) (loopOf es)
   unfolding loopOf
   loop-snoc [] h = refl
-  loop-snoc (x ∷ es) h = earlier (isLoop x) (isLoop e) (hasLoop es) h (loopIn (x .payload)) (loopOf (es ++ one)) (loopIn (e .payload)) (loopOf es) (loop-snoc es)
+  loop-snoc (x ∷ es) h = earlier (isLoop x) (isLoop e) (hasLoop es) h (loopFrom (readLoop 0 (x .payload))) (loopOf (es ++ one)) (loopFrom (readLoop 0 (e .payload))) (loopOf es) (loop-snoc es)
 
 -- the entry at the end takes the place of the first zero entry
 set-end : (es : List Entry) (x y : Entry) (l : List Entry) → set (es ++ (y ∷ l)) (length es) x ≡ es ++ (x ∷ l)

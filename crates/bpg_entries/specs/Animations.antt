@@ -1,10 +1,8 @@
 -- What reading a tag 5 payload answers (document 01, "Order of the file", item 5).
-use mathlib.Core.List.{List}
 use Prim.Native.Nat.{ℕ}
 use Rattle.bpg_codec.specs.Outcome.{Outcome, ok, error}
 use Rattle.bpg_bytes.specs.Positions.{bytePos}
 use Rattle.bpg_format.specs.Content.{Loop}
-use Rattle.bpg_format.specs.FileCodec.{loopFrom}
 use Rattle.bpg_entries.specs.declared.animation.Animation.{Animation}
 
 abbrev pub refusedAnimation : (status offset : ℕ) → Animation
@@ -13,6 +11,6 @@ refusedAnimation s o = record { status = s; offset = bytePos o; «loop_count» =
 abbrev pub loopAnswer : Loop → Animation
 loopAnswer p = record { status = 0; offset = bytePos 0; «loop_count» = p .count; «frame_period_num» = p .periodNum; «frame_period_den» = p .periodDen }
 
-abbrev pub animationAnswer : Outcome (ℕ × (ℕ × (ℕ × List ℕ))) → Animation
-animationAnswer (ok x) = loopAnswer (loopFrom (ok x))
+abbrev pub animationAnswer : Outcome Loop → Animation
+animationAnswer (ok p) = loopAnswer p
 animationAnswer (error s o) = refusedAnimation s o

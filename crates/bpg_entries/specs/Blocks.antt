@@ -10,8 +10,7 @@ use Rattle.bpg_format.specs.Limits.{maxEntries, maxFile}
 use Rattle.bpg_format.specs.Zero.{zeroEntry}
 use Rattle.bpg_format.specs.Content.{Extension}
 use Rattle.bpg_format.specs.Rules.{hasLoop}
-use Rattle.bpg_format.specs.FileCodec.{loopOf}
-use Rattle.bpg_format.specs.Read.{readEntries}
+use Rattle.bpg_format.specs.Read.{loopOf, readEntries}
 use Rattle.bpg_format.specs.Records.{entriesAt, padEntries}
 use Rattle.bpg_entries.specs.declared.block.Block.{Block}
 use Rattle.bpg_entries.specs.Animations.{refusedAnimation, loopAnswer}

@@ -4,24 +4,31 @@ use mathlib.Core.List.{List}
 use Prim.Native.Nat.{ℕ, _+_}
 use lib.Dec.{leb}
 use lib.ListN.{length}
-use Rattle.bpg_codec.specs.Outcome.{Outcome, ok, error, _>>=_, guard}
+use Rattle.bpg_codec.specs.Outcome.{Outcome, ok, error, _>>=_, guard, Decoded, decoded}
 use Rattle.bpg_bytes.specs.Positions.{bytePos}
+use Rattle.bpg_numbers.specs.Ue7.{ue7Decode}
 use Rattle.bpg_format.specs.Zero.{range, zeroEntry}
-use Rattle.bpg_format.specs.FileCodec.{loopNumbers}
-use Rattle.bpg_format.specs.Read.{number}
+use Rattle.bpg_format.specs.Content.{Loop}
+use Rattle.bpg_format.specs.Read.{readLoop}
 use Rattle.bpg_entries.specs.declared.entry.Step.{Step}
 
--- what `readEntry` does for any tag: tag, length, payload fits. The tag, the payload's size, where it starts, what is left there
-unfoldable pub entryStart : (p : ℕ) → List ℕ → Outcome (ℕ × ℕ × ℕ × List ℕ)
+-- an entry without its payload
+pub record EntryHead : Type 0 where
+  pub tag : ℕ
+  -- of the payload
+  pub size : ℕ
+
+-- what `readEntry` does for any tag: tag, length, payload fits. The payload comes next
+unfoldable pub entryStart : (p : ℕ) → List ℕ → Outcome (Decoded ℕ EntryHead)
 entryStart p l =
-    number 32 p l >>= λ tag.
-    number 32 (tag .1) (tag .2) >>= λ size.
-    guard (leb (size .0) (length (size .2))) 2 (tag .1) >>= λ _.
-    ok (tag .0, size .0, size .1, size .2)
+    ue7Decode 32 p l >>= λ tag.
+    ue7Decode 32 (tag .next) (tag .rest) >>= λ size.
+    guard (leb (size .value) (length (size .rest))) 2 (tag .next) >>= λ _.
+    ok (decoded (record { tag = tag .value; size = size .value }) (size .next) (size .rest))
 
 -- and then for tag 5: 13 at the entry's start p, the numbers of its payload l, which stands at `start`; `seen`: an entry with tag 5 stands before it
-abbrev pub animationControl : (seen : Bool) (p start : ℕ) → List ℕ → Outcome (ℕ × (ℕ × (ℕ × List ℕ)))
-animationControl seen p start l = guard (not seen) 13 p >>= λ _. loopNumbers .decode start start l
+abbrev pub animationControl : (seen : Bool) (p start : ℕ) → List ℕ → Outcome Loop
+animationControl seen p start l = guard (not seen) 13 p >>= λ _. readLoop start l
 
 abbrev pub refusedStep : (status offset : ℕ) → Step
 refusedStep s o = record { status = s; offset = bytePos o; entry = zeroEntry; next = bytePos 0 }
@@ -30,6 +37,6 @@ abbrev pub foundStep : (tag start size : ℕ) → Step
 foundStep tag start size =
     record { status = 0; offset = bytePos 0; entry = record { tag = tag; payload = range start size }; next = bytePos (start + size) }
 
-abbrev pub stepAnswer : Outcome (ℕ × ℕ × ℕ × List ℕ) → Step
-stepAnswer (ok x) = foundStep (x .0) (x .2) (x .1)
+abbrev pub stepAnswer : Outcome (Decoded ℕ EntryHead) → Step
+stepAnswer (ok x) = foundStep (x .value .tag) (x .next) (x .value .size)
 stepAnswer (error s o) = refusedStep s o

@@ -4,7 +4,7 @@ use bpg_numbers::ue7;
 use bpg_numbers::ue7::Number;
 ghost use mathlib.Core.Path.{_≡_};
 ghost use lib.ListN.{drop};
-ghost use Rattle.bpg_format.specs.FileCodec.{loopNumbers};
+ghost use Rattle.bpg_format.specs.Read.{readLoop};
 ghost use Rattle.bpg_entries.specs.Animations.{refusedAnimation, animationAnswer};
 
 // Status 0 and the numbers; or a refusal and zeros.
@@ -30,7 +30,7 @@ pub fn refused(status: u8, offset: BytePos) -> Animation
 
 // The numbers from `at` on, in a region that ends with the payload.
 pub fn read(region: &[u8], at: BytePos) -> Animation
-    ensures { λ r. ⌜ r ≡ animationAnswer (loopNumbers .decode (at .0) (at .0) (drop (at .0) (now (region .entry)))) ⌝ }
+    ensures { λ r. ⌜ r ≡ animationAnswer (readLoop (at .0) (drop (at .0) (now (region .entry)))) ⌝ }
 {
     match ue7::read(region, at, 16) {
         Number::Refused(status, offset) => refused(status, offset),

@@ -5,7 +5,7 @@ use Prim.Native.Nat.{ℕ}
 use native.Mathlib.Omega.{arith}
 use lib.ListN.{drop}
 use borrow.Author.Needs.{needs}
-use Rattle.bpg_codec.specs.Outcome.{ok}
+use Rattle.bpg_codec.specs.Outcome.{ok, decoded}
 use Rattle.bpg_numbers.specs.Ue7.{ue7}
 use Rattle.bpg_numbers.proofs.Advances.{ue7-advances, ue7-limit}
 use Rattle.bpg_format.specs.FileCodec.{period}
@@ -28,7 +28,7 @@ module _ (c : tie.After-known-told2) where
   abbrev after : ℕ
   after = c .before .count .given .0 .1 .0 .0
 
-  count-is : ue7 16 .decode at at (drop at region) ≡ ok (count, after, drop after region)
+  count-is : ue7 16 .decode at at (drop at region) ≡ ok (decoded count after (drop after region))
   count-is = let r = c .before .before .before in value-read (ue7-advances 16) region at (r .read .result) (r .read .ensures) _ _ (c .before .count .given .1)
 
 -- and the period's numerator
@@ -42,7 +42,7 @@ module _ (c : tie.After-known-told4) where
   abbrev after-num : ℕ
   after-num = c .before .num .given .0 .1 .0 .0
 
-  num-is : period .decode (after first) (after first) (drop (after first) (region first)) ≡ ok (num, after-num, drop after-num (region first))
+  num-is : period .decode (after first) (after first) (drop (after first) (region first)) ≡ ok (decoded num after-num (drop after-num (region first)))
   num-is =
       let r = c .before .before .before in
       value-read period-advances (region first) (after first) (r .read-nonzero .result) (as-period _ _ _ (r .read-nonzero .ensures)) _ _ (c .before .num .given .1)
@@ -59,7 +59,7 @@ module _ (c : tie.After-known-told6) where
   after-den = c .before .den .given .0 .1 .0 .0
 
   den-is : period .decode (after-num second) (after-num second) (drop (after-num second) (region (first second)))
-      ≡ ok (den, after-den, drop after-den (region (first second)))
+      ≡ ok (decoded den after-den (drop after-den (region (first second))))
   den-is =
       let r = c .before .before .before in
       value-read period-advances (region (first second)) (after-num second) (r .read-nonzero2 .result) (as-period _ _ _ (r .read-nonzero2 .ensures)) _ _ (c .before .den .given .1)

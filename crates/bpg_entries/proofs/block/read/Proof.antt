@@ -6,7 +6,7 @@ use Prim.Native.Nat.{ℕ, _+_, _-_, _<_}
 use native.Mathlib.Omega.{arith}
 use lib.ListN.{drop, replicate}
 use borrow.Author.Needs.{needs}
-use Rattle.bpg_codec.specs.Outcome.{Outcome, error}
+use Rattle.bpg_codec.specs.Outcome.{Outcome, error, Decoded}
 use Rattle.bpg_codec.specs.Lawful.{All, Byte}
 use Rattle.bpg_codec.proofs.Tokens.{all-bytes}
 use Rattle.bpg_bytes.specs.Positions.{bytePos}
@@ -99,7 +99,7 @@ module _ (c : tie.After-read Inv-loop μ-loop) where
   abbrev step : Step
   step = c .read .result
 
-  abbrev entry : Outcome (Extension × ℕ × List ℕ)
+  abbrev entry : Outcome (Decoded ℕ Extension)
   entry = readEntry (turn .loop .animated) (turn .loop .next) (drop (turn .loop .next) (region turn))
 
   ends-with : (s o : ℕ) → entry ≡ error s o → refusedBlock s o ≡ blockAnswer (at turn) (entriesIn (region turn) (at turn))

@@ -5,7 +5,7 @@ use Prim.Native.Nat.{ℕ, _≤_}
 use native.Mathlib.Omega.{arith}
 use lib.ListN.{length, drop}
 use borrow.Author.Needs.{needs}
-use Rattle.bpg_codec.specs.Outcome.{ok}
+use Rattle.bpg_codec.specs.Outcome.{ok, decoded}
 use Rattle.bpg_codec.proofs.Positions.{within}
 use Rattle.bpg_numbers.specs.Ue7.{ue7}
 use Rattle.bpg_numbers.proofs.Advances.{ue7-advances}
@@ -55,7 +55,7 @@ module _ (c : tie.After-known-told2) where
   abbrev after : ℕ
   after = c .before .tag .given .0 .1 .0 .0
 
-  tag-is : ue7 32 .decode at at (drop at region) ≡ ok (tag, after, drop after region)
+  tag-is : ue7 32 .decode at at (drop at region) ≡ ok (decoded tag after (drop after region))
   tag-is = let r = c .before .before .before in value-read (ue7-advances 32) region at (r .read .result) (r .read .ensures) _ _ (c .before .tag .given .1)
 
 -- and the length
@@ -69,7 +69,7 @@ module _ (c : tie.After-known-told4) where
   abbrev payload : ℕ
   payload = c .before .size .given .0 .1 .0 .0
 
-  size-is : ue7 32 .decode (after first) (after first) (drop (after first) (region first)) ≡ ok (size, payload, drop payload (region first))
+  size-is : ue7 32 .decode (after first) (after first) (drop (after first) (region first)) ≡ ok (decoded size payload (drop payload (region first)))
   size-is =
       let r = c .before .before .before in
       value-read (ue7-advances 32) (region first) (after first) (r .read2 .result) (r .read2 .ensures) _ _ (c .before .size .given .1)
