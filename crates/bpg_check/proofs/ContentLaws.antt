@@ -16,7 +16,7 @@ use Rattle.bpg_numbers.specs.Ue7.{notZero}
 use Rattle.bpg_format.specs.declared.record.Record.{Record}
 use Rattle.bpg_format.specs.Zero.{zeroHeader}
 use Rattle.bpg_format.specs.Rules.{hasLoop}
-use Rattle.bpg_format.specs.FileCodec.{colorSpaceAllowed}
+use Rattle.bpg_format.specs.Tests.{colorSpaceAllowed}
 use Rattle.bpg_format.specs.Records.{extensionOf, usedEntries, contentOf, recordLoop}
 use Rattle.bpg_format.specs.Write.{checkEntries, checkHeader, checkContent}
 use Rattle.bpg_format.proofs.WritingRefusals.{AtZero, R, rule, last-rule, header-check, entries-check}

@@ -19,9 +19,9 @@ use Rattle.bpg_format.specs.declared.record.Entry.{Entry}
 use Rattle.bpg_format.specs.declared.record.Record.{Record}
 use Rattle.bpg_format.specs.Content.{Extension, Loop}
 use Rattle.bpg_format.specs.Rules.{isLoop, hasLoop}
-use Rattle.bpg_format.specs.FileCodec.{loopNumbers, loopFrom}
+use Rattle.bpg_format.specs.Read.{readLoop}
 use Rattle.bpg_format.specs.Records.{extensionOf, usedEntries}
-use Rattle.bpg_format.specs.Write.{inSource, entriesInSource, rangesInSource, isZero, zeroEntries, unusedZero, sameLoop, atZero, checkLoop, checkEntries}
+use Rattle.bpg_format.specs.Write.{inSource, entriesInSource, rangesInSource, isZero, zeroEntries, unusedZero, sameLoop, atZero, checkLoop, checkEntries, WritingStatus}
 use Rattle.bpg_format.proofs.RuleLaws.{bool-apart}
 use Rattle.bpg_format.proofs.WritingRefusals.{AtZero, R, rule, loop-check}
 use Rattle.bpg_entries.specs.declared.animation.Animation.{Animation}
@@ -132,23 +132,20 @@ module _ (source : List ℕ) (es : List Entry) (n k : ℕ)
 
 -- a payload of tag 5, by what is read of it
 module _ (p : Loop) (l : List ℕ) where
-  abbrev Numbers : Type 0
-  Numbers = Outcome (ℕ × (ℕ × (ℕ × List ℕ)))
+  abbrev checked : Outcome Loop → Outcome (Unit {0})
+  checked m = atZero m >>= λ x. guard (sameLoop p x) 19 0
 
-  abbrev checked : Numbers → Outcome (Unit {0})
-  checked m = atZero m >>= λ x. guard (sameLoop p (loopFrom (ok x))) 19 0
-
-  as-checked : (m : Numbers) → loopNumbers .decode 0 0 l ≡ m → checkLoop p l ≡ checked m
+  as-checked : (m : Outcome Loop) → readLoop 0 l ≡ m → checkLoop p l ≡ checked m
   unfolding checkLoop
   as-checked m e = rw e
 
-  module _ (a : Animation) (e : a ≡ animationAnswer (loopNumbers .decode 0 0 l)) where
+  module _ (a : Animation) (e : a ≡ animationAnswer (readLoop 0 l)) where
     -- the numbers were read, or the payload is refused
-    read-or-refused : {P : Type 0} → ((x : ℕ × (ℕ × (ℕ × List ℕ))) → checkLoop p l ≡ checked (ok x) → a ≡ animationAnswer (ok x) → P)
+    read-or-refused : {P : Type 0} → ((x : Loop) → checkLoop p l ≡ checked (ok x) → a ≡ animationAnswer (ok x) → P)
         → ((s o : ℕ) → checkLoop p l ≡ error s 0 → a ≡ animationAnswer (error s o) → P) → P
-    read-or-refused {P} g h = by (loopNumbers .decode 0 0 l) refl e
+    read-or-refused {P} g h = by (readLoop 0 l) refl e
       where
-        by : (m : Numbers) → loopNumbers .decode 0 0 l ≡ m → a ≡ animationAnswer m → P
+        by : (m : Outcome Loop) → readLoop 0 l ≡ m → a ≡ animationAnswer m → P
         by (ok x) d f = g x (as-checked (ok x) d) f
         by (error s o) d f = h s o (as-checked (error s o) d) f
 
@@ -160,7 +157,7 @@ module _ (p : Loop) (l : List ℕ) where
       decided : (t : Bool) → sameLoop p (animationLoop a) ≡ t → statusOf (guard t 19 0) ≡ statusOf (checkLoop p l)
       decided t s =
           read-or-refused (λ x c f. sym (rw (c, sym (λ i. sameLoop p (animationLoop (f i))) ∙ s)))
-          (λ s o c f. absurd (omega (arith, loop-check p l s 0 c .0 .least, ap (λ (y : Animation). y .status) f)))
+          (λ s o c f. absurd (subst WritingStatus (sym (ap (λ (y : Animation). y .status) f) ∙ z) (loop-check p l s 0 c .0)))
 
       pub loop-differs : sameLoop p (animationLoop a) ≡ false → 19 ≡ statusOf (checkLoop p l)
       loop-differs s = decided false s

@@ -3,7 +3,7 @@ use mathlib.Core.Path.{_≡_}
 use mathlib.Core.Bool.{true, false}
 use Prim.Native.Nat.{ℕ}
 use Rattle.bpg_format.specs.declared.record.Header.{Header}
-use Rattle.bpg_format.specs.FileCodec.{noForbiddenBit, hevcAllowed}
+use Rattle.bpg_format.specs.Tests.{noForbiddenBit, hevcAllowed}
 use Rattle.bpg_format.specs.Write.{fieldsCoded, checkHeader}
 use Rattle.bpg_check.specs.Check.{statusOf}
 

@@ -16,7 +16,7 @@ use Rattle.bpg_format.specs.declared.record.Header.{Header}
 use Rattle.bpg_format.specs.declared.record.Record.{Record}
 use Rattle.bpg_format.specs.Zero.{zeroHeader}
 use Rattle.bpg_format.specs.Content.{isEmpty}
-use Rattle.bpg_format.specs.FileCodec.{colorSpaceAllowed, noForbiddenBit, hevcAllowed}
+use Rattle.bpg_format.specs.Tests.{colorSpaceAllowed, noForbiddenBit, hevcAllowed}
 use Rattle.bpg_format.specs.Rules.{HevcRules, hasLoop}
 use Rattle.bpg_format.specs.Records.{usedEntries, extensionOf, contentOf}
 use Rattle.bpg_format.specs.Write.{entriesInSource, inSource, rangesInSource, unusedZero, consistent, fieldsCoded, checkHeader, checkEntries, checkContent, checkRecord}

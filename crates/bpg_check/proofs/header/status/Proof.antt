@@ -2,7 +2,7 @@
 use mathlib.Core.Path.{_≡_, sym, _∙_}
 use mathlib.Core.Bool.{true}
 use borrow.Author.Tests.{not-true, not-false}
-use Rattle.bpg_format.specs.FileCodec.{noForbiddenBit}
+use Rattle.bpg_format.specs.Tests.{noForbiddenBit}
 use Rattle.bpg_format.specs.Write.{fieldsCoded}
 use Rattle.bpg_check.proofs.HeaderLaws.{not-coded, forbidden-bit, not-allowed, header-passes}
 use borrow.Author.Needs.{needs}
