@@ -7,7 +7,7 @@ use native.Mathlib.Omega.{arith}
 use lib.Dec.{eqb}
 use lib.ListN.{drop, replicate}
 use Rattle.bpg_codec.specs.Select.{select}
-use Rattle.bpg_codec.specs.Outcome.{Outcome, ok, error, _>>=_}
+use Rattle.bpg_codec.specs.Outcome.{Outcome, ok, error, _>>=_, decoded}
 use Rattle.bpg_codec.specs.Codec.{Codec, decodeAt, atItem}
 use Rattle.bpg_codec.specs.Bits.{Bit, bit}
 use Rattle.bpg_codec.specs.Parts.{sequence, absent, fixed}
@@ -168,9 +168,9 @@ module _ (bits : List Bool) (b : Bool) (i p : ℕ) where
   pub depths-small : (a : PcmFields) (q : ℕ) → decodeAt bits (optional b pcmFields noPcm) i p ≡ ok (a, q) → (a .0 < 16) × (a .1 .0 < 16)
   depths-small a q e =
       unlocate (optional b pcmFields noPcm .decode i p (drop p bits)) e λ r e1.
-      pcm-limit b a (optional-lawful b noPcm pcm-lawful .encodes i p (drop p bits) (all-bits (drop p bits)) a q r e1 .0)
+      pcm-limit b a (optional-lawful b noPcm pcm-lawful .encodes i p (drop p bits) (all-bits (drop p bits)) (decoded a q r) e1 .0)
 
   pub seven-small : (a : Bool × ℕ) (q : ℕ) → decodeAt bits (optional b spsFields noSps) i p ≡ ok (a, q) → a .1 < 128
   seven-small a q e =
       unlocate (optional b spsFields noSps .decode i p (drop p bits)) e λ r e1.
-      sps-limit b a (optional-lawful b noSps sps-lawful .encodes i p (drop p bits) (all-bits (drop p bits)) a q r e1 .0)
+      sps-limit b a (optional-lawful b noSps sps-lawful .encodes i p (drop p bits) (all-bits (drop p bits)) (decoded a q r) e1 .0)

@@ -1,4 +1,4 @@
--- Reading a header, by what its fields are read as and by the first rule that is broken. Assumes nothing.
+-- Reading a header, by what its fields are read as and by the first rule that is broken.
 use mathlib.Core.Path.{_≡_, refl, sym, ap, _∙_}
 use mathlib.Core.Bool.{Bool, true, false}
 use mathlib.Core.List.{List, []}
@@ -8,7 +8,7 @@ use lib.Dec.{leb}
 use lib.ListN.{length, take, drop, length-drop, drop-of-length-le}
 use lib.Seq.{take-all, length-take-le}
 use borrow.Author.Tests.{le-leb, lt-leb}
-use Rattle.bpg_codec.specs.Outcome.{Outcome, ok, error, _>>=_, guard}
+use Rattle.bpg_codec.specs.Outcome.{Outcome, ok, error, _>>=_, guard, Decoded, decoded}
 use Rattle.bpg_codec.specs.Codec.{decodeAt}
 use Rattle.bpg_codec.specs.Bits.{isPadding, unpack}
 use Rattle.bpg_codec.proofs.Outcome.{error-not-ok}
@@ -22,8 +22,9 @@ use Rattle.bpg_numbers.proofs.Advances.{ue7-advances}
 use Rattle.bpg_bytes.specs.Positions.{bytePos}
 use Rattle.bpg_format.specs.Limits.{maxFile}
 use Rattle.bpg_format.specs.declared.record.Header.{Header}
-use Rattle.bpg_format.specs.FileCodec.{noForbiddenBit, hevcAllowed, headerFields}
+use Rattle.bpg_format.specs.Tests.{noForbiddenBit, hevcAllowed}
 use Rattle.bpg_format.specs.Read.{readFields, readHeader}
+use Rattle.bpg_format.specs.FileCodec.{headerFields}
 use Rattle.bpg_format.proofs.Chain.{fields-chain}
 use Rattle.bpg_fields.specs.declared.all_fields.Fields.{Fields}
 use Rattle.bpg_fields.specs.AllFields.{fieldsAnswer}
@@ -39,7 +40,7 @@ all-bits region short = ap unpack (take-all (2 ^ 60) region (omega arith))
 module _ (region : List ℕ) (depth p start : ℕ) (short : length region ≤ maxFile) (r : Fields)
     (e : r ≡ fieldsAnswer (decodeAt (regionBits region) headerFields 0 (8 * start))) where
   fields-are : (o : Outcome (Header × ℕ)) → decodeAt (regionBits region) headerFields p (8 * start) ≡ o
-      → readFields p (8 * start) (unpack (drop start region)) ≡ (o >>= λ x. ok (x .0, x .1, drop (x .1) (regionBits region)))
+      → readFields p (8 * start) (unpack (drop start region)) ≡ (o >>= λ x. ok (decoded (x .0) (x .1) (drop (x .1) (regionBits region))))
   fields-are o k =
       sym (fields-chain p (8 * start) (unpack (drop start region)))
       ∙ ap (headerFields .decode p (8 * start)) (unpack-drop start region ∙ ap (drop (8 * start)) (sym (all-bits region short)))
@@ -50,7 +51,7 @@ module _ (region : List ℕ) (depth p start : ℕ) (short : length region ≤ ma
   field-missing f = rw (fields-are (error 15 p) (fields-missing (regionBits region) (8 * start) r e p f))
 
   module _ (f : r .found ≡ true) where
-    found : readFields p (8 * start) (unpack (drop start region)) ≡ ok (r .header, r .next .0, drop (r .next .0) (regionBits region))
+    found : readFields p (8 * start) (unpack (drop start region)) ≡ ok (decoded (r .header) (r .next .0) (drop (r .next .0) (regionBits region)))
     found = fields-are (ok (r .header, r .next .0)) (fields-found (regionBits region) (8 * start) r e p f)
 
     pub not-padded : isPadding (drop (r .next .0) (regionBits region)) ≡ false → refusedHeader 15 p ≡ headerAnswer (fieldsIn region depth p start)
@@ -75,24 +76,24 @@ module _ (region : List ℕ) (depth p start : ℕ) (short : length region ≤ ma
 -- ---- the header's length
 
 -- what is judged after the fields
-abbrev judged : (depth p n : ℕ) → List ℕ → Header × ℕ × List Bool → Outcome (Header × ℕ × List ℕ)
-judged depth p n l h =
-    guard (isPadding (h .2)) 15 p >>= λ _.
-    guard (noForbiddenBit (h .0)) 17 p >>= λ _.
-    guard (hevcAllowed depth (h .0)) 16 p >>= λ _.
-    ok (h .0, n, l)
+abbrev judged : (depth p n : ℕ) → List ℕ → Decoded Bool Header → Outcome (Decoded ℕ Header)
+judged depth p n l fields =
+    guard (isPadding (fields .rest)) 15 p >>= λ _.
+    guard (noForbiddenBit (fields .value)) 17 p >>= λ _.
+    guard (hevcAllowed depth (fields .value)) 16 p >>= λ _.
+    ok (decoded (fields .value) n l)
 
 -- what is left after the header is no part of the answer
 rest-apart : (a b c : Bool) (p n : ℕ) (l r : List ℕ) (h : Header)
-    → headerAnswer (guard a 15 p >>= λ _. guard b 17 p >>= λ _. guard c 16 p >>= λ _. ok (h, n, l))
-    ≡ headerAnswer (guard a 15 p >>= λ _. guard b 17 p >>= λ _. guard c 16 p >>= λ _. ok (h, n, r))
+    → headerAnswer (guard a 15 p >>= λ _. guard b 17 p >>= λ _. guard c 16 p >>= λ _. ok (decoded h n l))
+    ≡ headerAnswer (guard a 15 p >>= λ _. guard b 17 p >>= λ _. guard c 16 p >>= λ _. ok (decoded h n r))
 rest-apart true true true p n l r h = refl
 rest-apart true true false p n l r h = refl
 rest-apart true false c p n l r h = refl
 rest-apart false b c p n l r h = refl
 
-judged-apart : (m : Outcome (Header × ℕ × List Bool)) (depth p n : ℕ) (l r : List ℕ) → headerAnswer (m >>= judged depth p n l) ≡ headerAnswer (m >>= judged depth p n r)
-judged-apart (ok h) depth p n l r = rest-apart (isPadding (h .2)) (noForbiddenBit (h .0)) (hevcAllowed depth (h .0)) p n l r (h .0)
+judged-apart : (m : Outcome (Decoded Bool Header)) (depth p n : ℕ) (l r : List ℕ) → headerAnswer (m >>= judged depth p n l) ≡ headerAnswer (m >>= judged depth p n r)
+judged-apart (ok x) depth p n l r = rest-apart (isPadding (x .rest)) (noForbiddenBit (x .value)) (hevcAllowed depth (x .value)) p n l r (x .value)
 judged-apart (error s o) depth p n l r = refl
 
 module _ (file : List ℕ) (depth p : ℕ) where
@@ -109,12 +110,12 @@ module _ (file : List ℕ) (depth p : ℕ) where
     unfolding readHeader
     length-refused s o e = rw (in-file, e)
 
-    module _ (v q : ℕ) (e : ue7 32 .decode p p (drop p file) ≡ ok (v, q, drop q file)) where
+    module _ (v q : ℕ) (e : ue7 32 .decode p p (drop p file) ≡ ok (decoded v q (drop q file))) where
       -- a number was read, so the file did not end before it
       pub length-inside : q ≤ length file
       length-inside =
           either-way p (length file)
-          (λ h. within (ue7-advances 32) file p p h (v, q, drop q file) e)
+          (λ h. within (ue7-advances 32) file p p h (decoded v q (drop q file)) e)
           (λ h.
           let none : drop p file ≡ [] = drop-of-length-le file {i = p} (omega (arith, h)) in
           absurd (error-not-ok (sym (ap (ue7 32 .decode p p) none ∙ decode-end 32 p) ∙ e)))

@@ -4,7 +4,7 @@ use mathlib.Core.List.{List}
 use Prim.Native.Nat.{ℕ}
 use lib.ListN.{drop}
 use Rattle.bpg_codec.specs.Select.{select}
-use Rattle.bpg_codec.specs.Outcome.{Outcome, ok, error, _>>=_}
+use Rattle.bpg_codec.specs.Outcome.{Outcome, ok, error, _>>=_, Decoded, decoded}
 use Rattle.bpg_bytes.specs.Positions.{bytePos}
 use Rattle.bpg_format.specs.declared.record.Header.{Header}
 use Rattle.bpg_format.specs.Zero.{zeroHeader}
@@ -18,12 +18,12 @@ abbrev pub headersAnswer : Outcome (Header × Header × ℕ) → HeadersReading
 headersAnswer (ok x) = record { status = 0; offset = bytePos 0; alpha = x .0; color = x .1; next = bytePos (x .2) }
 headersAnswer (error s o) = refusedHeaders s o
 
-abbrev pub alphaIn : List ℕ → (present : Bool) (depth p : ℕ) → Outcome (Header × ℕ × List ℕ)
-alphaIn file present depth p = select present (headerIn file depth p) (ok (zeroHeader, p, drop p file))
+abbrev pub alphaIn : List ℕ → (present : Bool) (depth p : ℕ) → Outcome (Decoded ℕ Header)
+alphaIn file present depth p = select present (headerIn file depth p) (ok (decoded zeroHeader p (drop p file)))
 
 -- the headers from p on, and the offset after them
-unfoldable pub headersIn : List ℕ → (alpha : Bool) (depth p : ℕ) → Outcome (Header × Header × ℕ)
-headersIn file alpha depth p =
-    alphaIn file alpha depth p >>= λ a.
-    headerIn file depth (a .1) >>= λ c.
-    ok (a .0, c .0, c .1)
+unfoldable pub headersIn : List ℕ → (hasAlpha : Bool) (depth p : ℕ) → Outcome (Header × Header × ℕ)
+headersIn file hasAlpha depth p =
+    alphaIn file hasAlpha depth p >>= λ alpha.
+    headerIn file depth (alpha .next) >>= λ color.
+    ok (alpha .value, color .value, color .next)

@@ -1,11 +1,11 @@
--- `header::read` meets its contract. Assumes nothing.
+-- `header::read` meets its contract.
 use mathlib.Core.Path.{_≡_, ap, _∙_}
 use mathlib.Core.List.{List}
 use Prim.Native.Nat.{ℕ, _+_, _-_, _≤_}
 use native.Mathlib.Omega.{arith}
 use lib.ListN.{length, take, drop}
 use lib.Seq.{length-take-le}
-use Rattle.bpg_codec.specs.Outcome.{ok}
+use Rattle.bpg_codec.specs.Outcome.{ok, decoded}
 use Rattle.bpg_numbers.specs.Ue7.{ue7}
 use Rattle.bpg_numbers.proofs.Advances.{ue7-advances}
 use Rattle.bpg_numbers.proofs.ReadAt.{value-read, refusal-read}
@@ -42,7 +42,7 @@ module _ (c : tie.After-known-told2) where
   short : length file ≤ maxFile
   short = read .before .if1 .left
 
-  size-is : ue7 32 .decode at at (drop at file) ≡ ok (size, start, drop start file)
+  size-is : ue7 32 .decode at at (drop at file) ≡ ok (decoded size start (drop start file))
   size-is = value-read (ue7-advances 32) file at (read .read .result) (read .read .ensures) _ _ (c .before .size .given .1)
 
   inside : start ≤ length file
