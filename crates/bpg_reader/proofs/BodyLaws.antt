@@ -1,12 +1,13 @@
 -- Reading the body of a file, by what each of its parts is read as. Assumes nothing.
-use mathlib.Core.Path.{_≡_, refl, sym, ap, _∙_}
+use mathlib.Core.Path.{_≡_, refl, sym, ap, _∙_, subst}
 use mathlib.Core.Logic.{_≢_}
 use mathlib.Core.Bool.{true, false, not, _||_}
 use mathlib.Core.List.{List}
 use Prim.Native.Nat.{ℕ, _-_, _≤_}
 use native.Mathlib.Omega.{arith}
 use lib.ListN.{length, drop, length-drop}
-use Rattle.bpg_codec.specs.Outcome.{Outcome, ok}
+use borrow.Author.Tests.{le-leb}
+use Rattle.bpg_codec.specs.Outcome.{Outcome, ok, decoded}
 use Rattle.bpg_codec.specs.Lawful.{All, Byte}
 use Rattle.bpg_codec.proofs.Answers.{refused-error, accepted-value}
 use Rattle.bpg_codec.proofs.Refusals.{Refuses}
@@ -15,47 +16,46 @@ use Rattle.bpg_format.specs.declared.record.Header.{Header}
 use Rattle.bpg_format.specs.Zero.{refusedReading}
 use Rattle.bpg_format.specs.Content.{Extension, hasAlpha, bitDepth}
 use Rattle.bpg_format.specs.Rules.{hasLoop}
-use Rattle.bpg_format.specs.FileCodec.{countsBody}
-use Rattle.bpg_format.specs.Read.{readContent}
+use Rattle.bpg_format.specs.Tests.{countsBody}
+use Rattle.bpg_format.specs.Read.{Head, readHead, readBlock, readBody, readContent, ReadingStatus}
 use Rattle.bpg_format.specs.Records.{recordOf, answerOf}
 use Rattle.bpg_format.proofs.ReadingRefusals.{Numbered, content-refuses}
-use Rattle.bpg_head.specs.declared.head.Head.{Head}
-use Rattle.bpg_head.specs.Heads.{HeadFields, readHead}
+use Rattle.bpg_head.specs.declared.head.Head.{Head as HeadReading}
 use Rattle.bpg_head.proofs.HeadLaws.{head-facts}
 use Rattle.bpg_entries.specs.declared.block.Block.{Block}
 use Rattle.bpg_entries.specs.Blocks.{blockAnswer}
 use Rattle.bpg_header.specs.declared.headers.HeadersReading.{HeadersReading}
 use Rattle.bpg_header.specs.BothHeaders.{headersAnswer, headersIn}
-use Rattle.bpg_reader.specs.Bodies.{headFields, entriesOf, bodyStart, bodyContent, readBody}
+use Rattle.bpg_reader.specs.Bodies.{headFields, bodyStart, bodyContent}
 use Rattle.bpg_reader.specs.Assembled.{assembledReading}
-use Rattle.bpg_reader.proofs.HeadThenBody.{head-content}
 use Rattle.bpg_reader.proofs.BodyChain.{header-inside, alpha-inside, both-headers, body-chain}
 use Rattle.bpg_reader.proofs.BodyRecord.{block-fits, content-rules, block-starts, data-starts}
 
-module _ (file : List ℕ) (short : length file ≤ maxFile) (head : Head) (known : readHead file ≡ ok (headFields head)) where
-  abbrev h : HeadFields
+module _ (file : List ℕ) (short : length file ≤ maxFile) (head : HeadReading) (known : readHead file ≡ ok (headFields head)) where
+  abbrev h : Head
   h = headFields head
 
   abbrev after : List ℕ
   after = drop (h .end) file
 
   pub content-is : readContent file ≡ readBody h after
-  content-is = head-content file short ∙ rw known
+  unfolding readContent
+  content-is = rw (le-leb (length file) maxFile short, known)
 
   refuses : Refuses Numbered (readBody h after)
   refuses s o e = content-refuses file s o (content-is ∙ e)
 
-  module _ (b : Block) (block : b ≡ blockAnswer (h .end) (entriesOf h after)) where
+  module _ (b : Block) (block : b ≡ blockAnswer (h .end) (readBlock h after)) where
     pub entries-refused : b .status ≢ 0 → refusedReading (b .status) (b .offset .0) ≡ answerOf (readBody h after)
     entries-refused n =
-        refused-error (blockAnswer (h .end)) (λ r. r .status) (λ _. refl) (λ _ _. refl) (entriesOf h after) b block n λ s o w.
+        refused-error (blockAnswer (h .end)) (λ r. r .status) (λ _. refl) (λ _ _. refl) (readBlock h after) b block n λ s o w.
         rw (body-chain file short h, block, w)
 
     module _ (z : b .status ≡ 0) where
-      with-entries : {Q : Type 0} → ((es : List Extension) → entriesOf h after ≡ ok es → b ≡ blockAnswer (h .end) (ok es) → Q) → Q
+      with-entries : {Q : Type 0} → ((es : List Extension) → readBlock h after ≡ ok es → b ≡ blockAnswer (h .end) (ok es) → Q) → Q
       with-entries use-entries =
-          accepted-value (blockAnswer (h .end)) (λ r. r .status) (λ _. refl) (λ _ _. refl) (entriesOf h after) b block z
-          (λ s o w k. omega (arith, refuses s o (body-chain file short h ∙ rw w) .0))
+          accepted-value (blockAnswer (h .end)) (λ r. r .status) (λ _. refl) (λ _ _. refl) (readBlock h after) b block z
+          (λ s o w k. subst ReadingStatus k (refuses s o (body-chain file short h ∙ rw w)))
           (λ es w. use-entries es w (block ∙ ap (blockAnswer (h .end)) w))
 
       pub block-inside : bodyStart h ≤ length file
@@ -90,20 +90,20 @@ module _ (file : List ℕ) (short : length file ≤ maxFile) (head : Head) (know
           module _ (y : x .status ≡ 0) (bytes : All Byte file) where
             -- all parts were read
             with-parts : {Q : Type 0}
-                → ((es : List Extension) (hs : Header × Header × ℕ) → entriesOf h after ≡ ok es → b ≡ blockAnswer (h .end) (ok es) → found ≡ ok hs
+                → ((es : List Extension) (hs : Header × Header × ℕ) → readBlock h after ≡ ok es → b ≡ blockAnswer (h .end) (ok es) → found ≡ ok hs
                 → x ≡ headersAnswer (ok hs) → readBody h after ≡ ok (bodyContent h es (hs .0) (hs .1) (drop (hs .2) file)) → Q) → Q
             with-parts use-parts =
                 with-entries λ es w is.
                 accepted-value headersAnswer (λ r. r .status) (λ _. refl) (λ _ _. refl) found x headers y
-                (λ s o v k. omega (arith, refuses s o (body-chain file short h ∙ rw (w, controlled es is, counts, v)) .0))
+                (λ s o v k. subst ReadingStatus k (refuses s o (body-chain file short h ∙ rw (w, controlled es is, counts, v))))
                 (λ hs v. use-parts es hs w is v (headers ∙ ap headersAnswer v) (body-chain file short h ∙ rw (w, controlled es is, counts, v)))
 
             pub next-inside : x .next .0 ≤ length file
             next-inside =
                 with-parts λ es hs w is v xs whole.
                 both-headers file short (h .flags) (bodyStart h) hs v λ q e1 e2.
-                let inside = alpha-inside file (bodyStart h) (hs .0, q, drop q file) (h .flags) block-inside e1 in
-                omega (arith, header-inside file q (hs .1, hs .2, drop (hs .2) file) (bitDepth (h .flags)) inside e2, ap (λ (r : HeadersReading). r .next .0) xs)
+                let inside = alpha-inside file (bodyStart h) (decoded (hs .0) q (drop q file)) (h .flags) block-inside e1 in
+                omega (arith, header-inside file q (decoded (hs .1) (hs .2) (drop (hs .2) file)) (bitDepth (h .flags)) inside e2, ap (λ (r : HeadersReading). r .next .0) xs)
 
             pub min-cb-small : x .color .«log2_min_luma_coding_block_size_minus3» ≤ 3
             min-cb-small =

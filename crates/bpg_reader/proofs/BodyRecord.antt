@@ -7,7 +7,7 @@ use native.Mathlib.Omega.{arith}
 use lib.Dec.{leb, leb→le}
 use lib.ListN.{length, take, drop, length-append, length-drop}
 use lib.Seq.{length-take-le}
-use Rattle.bpg_codec.specs.Outcome.{ok}
+use Rattle.bpg_codec.specs.Outcome.{ok, decoded}
 use Rattle.bpg_codec.specs.Lawful.{All, Byte}
 use Rattle.bpg_codec.specs.Regions.{thenRest, rest, repeated}
 use Rattle.bpg_codec.proofs.Outcome.{unguard}
@@ -18,7 +18,7 @@ use Rattle.bpg_format.specs.Content.{Extension, Content, bitDepth}
 use Rattle.bpg_format.specs.Syntax.{blockBytes, bodyBytes}
 use Rattle.bpg_format.specs.Rules.{Rules}
 use Rattle.bpg_format.specs.FileCodec.{extensions, body}
-use Rattle.bpg_format.specs.Read.{readEntries, readHeader, readAlphaHeader, readContent}
+use Rattle.bpg_format.specs.Read.{Head, readEntries, readBlock, readHeader, readAlphaHeader, readContent}
 use Rattle.bpg_format.specs.Records.{blockStart, dataStart}
 use Rattle.bpg_format.proofs.Chain.{entries-chain, header-chain, alpha-chain}
 use Rattle.bpg_format.proofs.FileLaws.{extensions-lawful, body-lawful}
@@ -26,8 +26,7 @@ use Rattle.bpg_format.proofs.SyntaxLaws.{each-encode, body-encode}
 use Rattle.bpg_format.proofs.RecordLaws.{beforeEntries, file-entries, before-length}
 use Rattle.bpg_format.proofs.RangeLaws.{data-end}
 use Rattle.bpg_format.proofs.Reading.{read-is}
-use Rattle.bpg_head.specs.Heads.{HeadFields}
-use Rattle.bpg_reader.specs.Bodies.{entriesOf, bodyStart, bodyContent}
+use Rattle.bpg_reader.specs.Bodies.{bodyStart, bodyContent}
 
 -- ---- the block
 
@@ -39,13 +38,13 @@ block-encode : (es : List Extension) → extensions .encode es ≡ blockBytes es
 unfolding extensions repeated
 block-encode es = each-encode false es
 
-module _ (h : HeadFields) (l : List ℕ) (es : List Extension) (e : entriesOf h l ≡ ok es) where
+module _ (h : Head) (l : List ℕ) (es : List Extension) (e : readBlock h l ≡ ok es) where
   pub block-fits : h .extensionLength ≤ length l
-  unfolding entriesOf
+  unfolding readBlock
   block-fits = unguard (leb (h .extensionLength) (length l)) 2 (h .extensionLengthAt) _ e λ t _. leb→le (h .extensionLength) (length l) t
 
   block-size : All Byte l → length (blockBytes es) ≡ h .extensionLength
-  unfolding entriesOf
+  unfolding readBlock
   block-size bytes =
       unguard (leb (h .extensionLength) (length l)) 2 (h .extensionLengthAt) _ e λ t e1.
       let part = take (h .extensionLength) l in
@@ -54,10 +53,10 @@ module _ (h : HeadFields) (l : List ℕ) (es : List Extension) (e : entriesOf h 
 
 -- ---- the file
 
-module _ (file : List ℕ) (bytes : All Byte file) (h : HeadFields) (es : List Extension) (a c : Header) (n : ℕ)
-    (entries : entriesOf h (drop (h .end) file) ≡ ok es)
-    (q : ℕ) (alpha : readAlphaHeader (h .flags) (bodyStart h) (drop (bodyStart h) file) ≡ ok (a, q, drop q file))
-    (color : readHeader (bitDepth (h .flags)) q (drop q file) ≡ ok (c, n, drop n file))
+module _ (file : List ℕ) (bytes : All Byte file) (h : Head) (es : List Extension) (a c : Header) (n : ℕ)
+    (entries : readBlock h (drop (h .end) file) ≡ ok es)
+    (q : ℕ) (alpha : readAlphaHeader (h .flags) (bodyStart h) (drop (bodyStart h) file) ≡ ok (decoded a q (drop q file)))
+    (color : readHeader (bitDepth (h .flags)) q (drop q file) ≡ ok (decoded c n (drop n file)))
     (whole : readContent file ≡ ok (bodyContent h es a c (drop n file))) where
   abbrev content : Content
   content = bodyContent h es a c (drop n file)

@@ -8,25 +8,23 @@ use lib.Seq.{length-take-le}
 use borrow.Author.Tests.{le-leb, lt-leb}
 use Rattle.bpg_codec.proofs.Lists.{take-drop}
 use Rattle.bpg_format.specs.Limits.{maxFile}
-use Rattle.bpg_format.specs.FileCodec.{loopOf}
-use Rattle.bpg_format.specs.Read.{readEntries}
-use Rattle.bpg_head.specs.Heads.{HeadFields}
+use Rattle.bpg_format.specs.Read.{Head, loopOf, readEntries, readBlock}
 use Rattle.bpg_entries.specs.Blocks.{refusedBlock, blockAnswer, entriesIn}
-use Rattle.bpg_reader.specs.Bodies.{entriesOf, bodyStart}
+use Rattle.bpg_reader.specs.Bodies.{bodyStart}
 
-module _ (file : List ℕ) (short : length file ≤ maxFile) (h : HeadFields) (inside : h .end ≤ length file) where
+module _ (file : List ℕ) (short : length file ≤ maxFile) (h : Head) (inside : h .end ≤ length file) where
   pub block-too-large : length file - h .end < h .extensionLength
-      → refusedBlock 2 (h .extensionLengthAt) ≡ blockAnswer (h .end) (entriesOf h (drop (h .end) file))
-  unfolding entriesOf
+      → refusedBlock 2 (h .extensionLengthAt) ≡ blockAnswer (h .end) (readBlock h (drop (h .end) file))
+  unfolding readBlock
   block-too-large n = rw (lt-leb (h .extensionLength) (length (drop (h .end) file)) (omega (arith, length-drop (h .end) file)))
 
-  pub block-empty : h .extensionLength ≡ 0 → refusedBlock 0 0 ≡ blockAnswer (h .end) (entriesOf h (drop (h .end) file))
-  unfolding entriesOf readEntries loopOf
+  pub block-empty : h .extensionLength ≡ 0 → refusedBlock 0 0 ≡ blockAnswer (h .end) (readBlock h (drop (h .end) file))
+  unfolding readBlock readEntries loopOf
   block-empty e = rw (e, le-leb 0 (length (drop (h .end) file)) (omega arith))
 
   pub block-region : h .extensionLength ≤ length file - h .end
-      → blockAnswer (h .end) (entriesIn (take (bodyStart h - 0) file) (h .end)) ≡ blockAnswer (h .end) (entriesOf h (drop (h .end) file))
-  unfolding entriesIn entriesOf
+      → blockAnswer (h .end) (entriesIn (take (bodyStart h - 0) file) (h .end)) ≡ blockAnswer (h .end) (readBlock h (drop (h .end) file))
+  unfolding entriesIn readBlock
   block-region n =
       let whole : bodyStart h - 0 ≡ bodyStart h = omega arith in
       let ends : length (take (bodyStart h) file) ≡ bodyStart h = length-take-le (bodyStart h) file (omega arith) in

@@ -1,22 +1,21 @@
 -- Reading a file, by its length and by what its head is read as. Assumes nothing.
-use mathlib.Core.Path.{_≡_, refl, sym, ap, _∙_}
+use mathlib.Core.Path.{_≡_, refl, sym, ap, _∙_, subst}
 use mathlib.Core.Logic.{_≢_}
 use mathlib.Core.List.{List}
 use Prim.Native.Nat.{ℕ, _≤_, _<_}
 use native.Mathlib.Omega.{arith}
 use lib.ListN.{length, drop}
-use borrow.Author.Tests.{lt-leb}
+use borrow.Author.Tests.{le-leb, lt-leb}
 use Rattle.bpg_codec.specs.Outcome.{ok, error}
 use Rattle.bpg_codec.proofs.Answers.{refused-error, accepted-value}
 use Rattle.bpg_format.specs.Limits.{maxFile}
 use Rattle.bpg_format.specs.Zero.{refusedReading}
-use Rattle.bpg_format.specs.Read.{readContent}
+use Rattle.bpg_format.specs.Read.{readHead, readBody, readContent, ReadingStatus}
 use Rattle.bpg_format.specs.Records.{answerOf, readFile}
 use Rattle.bpg_format.proofs.ReadingRefusals.{content-refuses}
 use Rattle.bpg_head.specs.declared.head.Head.{Head}
-use Rattle.bpg_head.specs.Heads.{readHead, headAnswer}
-use Rattle.bpg_reader.specs.Bodies.{headFields, readBody}
-use Rattle.bpg_reader.proofs.HeadThenBody.{head-content}
+use Rattle.bpg_head.specs.Heads.{headAnswer}
+use Rattle.bpg_reader.specs.Bodies.{headFields}
 use Rattle.bpg_reader.proofs.BodyLaws.{content-is}
 
 pub too-long : (file : List ℕ) → maxFile < length file → refusedReading 1 0 ≡ readFile file
@@ -25,7 +24,8 @@ too-long file h = rw (lt-leb (length file) maxFile h)
 
 module _ (file : List ℕ) (short : length file ≤ maxFile) (head : Head) (read : head ≡ headAnswer (readHead file)) where
   refused-with : (s o : ℕ) → readHead file ≡ error s o → readContent file ≡ error s o
-  refused-with s o e = head-content file short ∙ rw e
+  unfolding readContent
+  refused-with s o e = rw (le-leb (length file) maxFile short, e)
 
   pub head-refused : head .status ≢ 0 → refusedReading (head .status) (head .offset .0) ≡ readFile file
   unfolding readFile
@@ -36,7 +36,7 @@ module _ (file : List ℕ) (short : length file ≤ maxFile) (head : Head) (read
   pub head-known : head .status ≡ 0 → readHead file ≡ ok (headFields head)
   head-known z =
       accepted-value headAnswer (λ r. r .status) (λ _. refl) (λ _ _. refl) (readHead file) head read z
-      (λ s o w k. omega (arith, content-refuses file s o (refused-with s o w) .0))
+      (λ s o w k. subst ReadingStatus k (content-refuses file s o (refused-with s o w)))
       (λ h w. w ∙ ap (λ (x : Head). ok (headFields x)) (sym (read ∙ ap headAnswer w)))
 
 pub body-answer : (file : List ℕ) → length file ≤ maxFile → (head : Head) → readHead file ≡ ok (headFields head)

@@ -1,5 +1,4 @@
 -- Laws of reading a file.
-pub mod HeadThenBody
 pub mod EntryBlock
 pub mod BodyChain
 pub mod BodyRecord

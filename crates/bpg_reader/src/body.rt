@@ -14,19 +14,17 @@ ghost use Prim.Native.Nat.{_≤_};
 ghost use lib.ListN.{length as count, drop};
 ghost use Rattle.bpg_codec.specs.Outcome.{ok};
 ghost use Rattle.bpg_format.specs.Limits.{maxFile};
-ghost use Rattle.bpg_format.specs.FileCodec.{countsBody};
+ghost use Rattle.bpg_format.specs.Tests.{countsBody};
+ghost use Rattle.bpg_format.specs.Read.{readHead, readBlock, readBody};
 ghost use Rattle.bpg_format.specs.Records.{answerOf};
-ghost use Rattle.bpg_head.specs.Heads.{readHead};
 ghost use Rattle.bpg_entries.specs.Blocks.{blockAnswer};
-ghost use Rattle.bpg_reader.specs.Bodies.{headFields, entriesOf, readBody};
+ghost use Rattle.bpg_reader.specs.Bodies.{headFields};
 
 // The entries of the extension block. Without the extension flag its length is 0.
-// `block::read` is called in two places: called in one, it would be compiled into this function and those that call it, whose
-// many values leave its loop no registers.
 fn entries(file: &[u8], head: Head) -> Block
     requires { ⌜ count (now file) ≤ maxFile ⌝ }
     requires { ⌜ head .end .0 ≤ count (now file) ⌝ }
-    ensures { λ r. ⌜ r ≡ blockAnswer (head .end .0) (entriesOf (headFields head) (drop (head .end .0) (now (file .entry)))) ⌝ }
+    ensures { λ r. ⌜ r ≡ blockAnswer (head .end .0) (readBlock (headFields head) (drop (head .end .0) (now (file .entry)))) ⌝ }
 {
     let length = head.extension_length as usize;
     if file.len() - head.end.0 < length {
@@ -36,9 +34,6 @@ fn entries(file: &[u8], head: Head) -> Block
         return block::none();
     }
     let end = head.end.0 + length;
-    if head.flags.animation_flag {
-        return block::read(&file[0..end], head.end);
-    }
     block::read(&file[0..end], head.end)
 }
 
@@ -46,20 +41,14 @@ fn entries(file: &[u8], head: Head) -> Block
 fn control_fits(animation_flag: bool, animated: bool) -> bool
     ensures { λ r. ⌜ r ≡ (not «animation_flag» || animated) ⌝ }
 {
-    if animation_flag {
-        return animated;
-    }
-    true
+    !animation_flag | animated
 }
 
 // Refusal 10: a data length that is not 0 counts the headers and the data.
 fn reaches_end(data_length: u32, size: usize) -> bool
     ensures { λ r. ⌜ r ≡ countsBody «data_length» size ⌝ }
 {
-    if data_length == 0 {
-        return true;
-    }
-    data_length as usize == size
+    (data_length == 0) | (data_length as usize == size)
 }
 
 // The body of a file whose head this is.

@@ -2,8 +2,9 @@
 use mathlib.Core.Path.{_≡_, _∙_}
 use lib.ListN.{take, drop}
 use Prim.Native.Nat.{_-_}
+use Rattle.bpg_format.specs.Read.{readBlock}
 use Rattle.bpg_entries.specs.Blocks.{blockAnswer, entriesIn}
-use Rattle.bpg_reader.specs.Bodies.{headFields, entriesOf, bodyStart}
+use Rattle.bpg_reader.specs.Bodies.{headFields, bodyStart}
 use Rattle.bpg_reader.proofs.EntryBlock.{block-too-large, block-empty, block-region}
 use borrow.Author.Needs.{needs}
 use Rattle.bpg_reader.proofs.body.entries.Statement.{statement}
@@ -16,7 +17,7 @@ module _ (c : tie.Else1) where
 
   region : let h = headFields (start .args .head) in
       let file = start .args .file .now in
-      blockAnswer (h .end) (entriesIn (take (bodyStart h - 0) file) (h .end)) ≡ blockAnswer (h .end) (entriesOf h (drop (h .end) file))
+      blockAnswer (h .end) (entriesIn (take (bodyStart h - 0) file) (h .end)) ≡ blockAnswer (h .end) (readBlock h (drop (h .end) file))
   region = block-region _ (start .pre .0) (headFields (start .args .head)) (start .pre .1) (c .if1 .left)
 
 cast-length : tie.Need-cast-length
@@ -57,22 +58,7 @@ read-requires : tie.Need-read-requires
 read-requires c κs = search needs
 
 returns-3 : tie.Need-returns-3
-returns-3 c = c .read .ensures ∙ region (c .before .before .before .before .before)
-
-sub-read-2 : tie.Need-sub-read-2
-sub-read-2 c = search needs
-
-part-read-start-2 : tie.Need-part-read-start-2
-part-read-start-2 c = search needs
-
-part-read-end-2 : tie.Need-part-read-end-2
-part-read-end-2 c = search needs
-
-read-requires-2 : tie.Need-read-requires-2
-read-requires-2 c κs = search needs
-
-returns-4 : tie.Need-returns-4
-returns-4 c = c .read2 .ensures ∙ region (c .before .before .before .before .before)
+returns-3 c = c .read .ensures ∙ region (c .before .before .before .before)
 
 pub entries-spec : {M : Type 1} → statement M
 entries-spec =
@@ -89,9 +75,4 @@ entries-spec =
     part-read-start
     part-read-end
     read-requires
-    returns-3
-    sub-read-2
-    part-read-start-2
-    part-read-end-2
-    read-requires-2
-    returns-4)
+    returns-3)

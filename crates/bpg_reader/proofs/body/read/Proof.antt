@@ -11,9 +11,9 @@ use Rattle.bpg_codec.specs.Lawful.{All, Byte}
 use Rattle.bpg_codec.proofs.Tokens.{all-bytes}
 use Rattle.bpg_format.specs.Limits.{maxFile}
 use Rattle.bpg_format.specs.Content.{hasAlpha, bitDepth}
-use Rattle.bpg_format.specs.FileCodec.{countsBody}
+use Rattle.bpg_format.specs.Tests.{countsBody}
+use Rattle.bpg_format.specs.Read.{readHead}
 use Rattle.bpg_head.specs.declared.head.Head.{Head}
-use Rattle.bpg_head.specs.Heads.{readHead}
 use Rattle.bpg_head.proofs.HeadLaws.{head-facts}
 use Rattle.bpg_header.specs.BothHeaders.{headersAnswer, headersIn}
 use Rattle.bpg_reader.specs.Bodies.{headFields, bodyStart}

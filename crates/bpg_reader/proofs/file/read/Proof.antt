@@ -1,7 +1,7 @@
 -- `file::read` meets its contract. Assumes nothing.
 use mathlib.Core.Path.{_≡_, _∙_}
 use Rattle.bpg_codec.specs.Outcome.{ok}
-use Rattle.bpg_head.specs.Heads.{readHead}
+use Rattle.bpg_format.specs.Read.{readHead}
 use Rattle.bpg_reader.specs.Bodies.{headFields}
 use Rattle.bpg_reader.proofs.FileLaws.{too-long, head-refused, head-known, body-answer}
 use borrow.Author.Needs.{needs}
