@@ -1,5 +1,5 @@
 -- What canonicalizing answers: the reader's refusals, then what writing the canonical record over the file answers. Assumes nothing.
-use mathlib.Core.Path.{_≡_, refl, sym, ap, _∙_}
+use mathlib.Core.Path.{_≡_, refl, sym, ap, _∙_, subst}
 use mathlib.Core.Logic.{_≢_}
 use mathlib.Core.List.{List}
 use Prim.Native.Nat.{ℕ, _≤_}
@@ -19,7 +19,7 @@ use Rattle.bpg_format.specs.Zero.{refusedWritten}
 use Rattle.bpg_format.specs.Content.{Content}
 use Rattle.bpg_format.specs.Syntax.{fileOf}
 use Rattle.bpg_format.specs.Rules.{Rules}
-use Rattle.bpg_format.specs.Read.{readContent}
+use Rattle.bpg_format.specs.Read.{readContent, ReadingStatus}
 use Rattle.bpg_format.specs.Records.{recordOf, answerOf, readFile}
 use Rattle.bpg_format.specs.Write.{sizedFile, writeOutcome, writtenAnswer, writtenBuffer, writeFile, writeBuffer, checkRecord}
 use Rattle.bpg_format.specs.Pictures.{canonicalContent, canonicalBytes, canonicalOutcome, canonicalFile, canonicalBuffer}
@@ -74,7 +74,7 @@ module _ (file out : List ℕ) (reading : Reading) (read : reading ≡ readFile 
     unfolding canonicalOutcome
     outcome =
         accepted-value answerOf (λ r. r .status) (λ _. refl) (λ _ _. refl) (readContent file) reading is-answer z
-        (λ s o e k. omega (arith, content-refuses file s o e .0))
+        (λ s o e k. subst ReadingStatus k (content-refuses file s o e))
         (λ c e.
         let known = read-is file bytes c e in
         ap (λ (x : Reading). writeOutcome (length out) (canonicalRecord (x .«record»)) file) (is-answer ∙ ap answerOf e)
