@@ -3,8 +3,9 @@ use mathlib.Core.Bool.{Bool, not}
 use mathlib.Core.List.{List}
 use Prim.Native.Nat.{ℕ, _+_}
 use lib.Dec.{leb}
-use lib.ListN.{length}
+use lib.ListN.{length, drop}
 use Rattle.bpg_codec.specs.Outcome.{Outcome, ok, error, _>>=_, guard}
+use Rattle.bpg_format.specs.Limits.{maxFile}
 use Rattle.bpg_format.specs.Zero.{range, zeroEntry}
 use Rattle.bpg_format.specs.FileCodec.{loopNumbers}
 use Rattle.bpg_format.specs.Read.{number}
@@ -32,3 +33,7 @@ foundStep tag start size =
 abbrev pub stepAnswer : Outcome (ℕ × ℕ × ℕ × List ℕ) → Step
 stepAnswer (ok x) = foundStep (x .0) (x .2) (x .1)
 stepAnswer (error s o) = refusedStep s o
+
+-- the entry at p of a region; one that is longer than a file may be is 1 at 0. Past the region's end it is as at the end: 2 at p
+unfoldable pub entryIn : List ℕ → (p : ℕ) → Outcome (ℕ × ℕ × ℕ × List ℕ)
+entryIn region p = guard (leb (length region) maxFile) 1 0 >>= λ _. entryStart p (drop p region)
