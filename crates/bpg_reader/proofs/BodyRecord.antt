@@ -44,7 +44,7 @@ module _ (h : HeadFields) (l : List ℕ) (es : List Extension) (e : entriesOf h 
   unfolding entriesOf
   block-fits = unguard (leb (h .extensionLength) (length l)) 2 (h .extensionLengthAt) _ e λ t _. leb→le (h .extensionLength) (length l) t
 
-  block-size : All Byte l → length (blockBytes es) ≡ h .extensionLength
+  pub block-size : All Byte l → length (blockBytes es) ≡ h .extensionLength
   unfolding entriesOf
   block-size bytes =
       unguard (leb (h .extensionLength) (length l)) 2 (h .extensionLengthAt) _ e λ t e1.

@@ -6,3 +6,4 @@ pub mod BodyRecord
 pub mod BodyLaws
 pub mod FileLaws
 pub mod PartLaws
+pub mod BoundsLaws
