@@ -1,28 +1,31 @@
-// One step of a cursor: the work, over a plain slice and an index.
+// One step of a cursor: the work, over a plain slice and an offset.
+use bpg_bytes::BytePos;
+use bpg_entries::entry;
 use bpg_reader::EntryAt;
-use bpg_reader::entry_at;
 ghost use mathlib.Core.Path.{_≡_};
 ghost use Rattle.bpg_cursor.specs.Cursors.{stepAt};
 
-// What a cursor yields, and the index at which it then stands.
+// What a cursor yields, and the offset at which it then stands.
 pub struct Step {
     pub answer: EntryAt,
-    pub next: usize,
+    pub next: BytePos,
 }
 
-// The step at an index: past the last entry the index stays.
-pub fn step_at(file: &[u8], index: usize) -> Step
-    ensures { λ r. ⌜ r ≡ stepAt (now (file .entry)) index ⌝ }
+// The step at an offset: where no entry can be read the offset stays.
+pub fn step_at(region: &[u8], at: BytePos) -> Step
+    ensures { λ r. ⌜ r ≡ stepAt (now (region .entry)) (at .0) ⌝ }
 {
-    let answer = entry_at(file, index);
-    match answer {
-        EntryAt::Found(_) => {
-            let next = index + 1;
-            Step { answer, next }
-        }
-        EntryAt::Absent => Step {
-            answer,
-            next: index,
-        },
+    let read = entry::read_checked(region, at);
+    if read.status != 0 {
+        return Step {
+            answer: EntryAt::Absent,
+            next: at,
+        };
+    }
+    let entry = read.entry;
+    let next = read.next;
+    Step {
+        answer: EntryAt::Found(entry),
+        next,
     }
 }

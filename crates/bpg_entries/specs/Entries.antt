@@ -3,10 +3,11 @@ use mathlib.Core.Bool.{Bool, not}
 use mathlib.Core.List.{List}
 use Prim.Native.Nat.{ℕ, _+_}
 use lib.Dec.{leb}
-use lib.ListN.{length}
+use lib.ListN.{length, drop}
 use Rattle.bpg_codec.specs.Outcome.{Outcome, ok, error, _>>=_, guard, Decoded, decoded}
 use Rattle.bpg_bytes.specs.Positions.{bytePos}
 use Rattle.bpg_numbers.specs.Ue7.{ue7Decode}
+use Rattle.bpg_format.specs.Limits.{maxFile}
 use Rattle.bpg_format.specs.Zero.{range, zeroEntry}
 use Rattle.bpg_format.specs.Content.{Loop}
 use Rattle.bpg_format.specs.Read.{readLoop}
@@ -40,3 +41,7 @@ foundStep tag start size =
 abbrev pub stepAnswer : Outcome (Decoded ℕ EntryHead) → Step
 stepAnswer (ok x) = foundStep (x .value .tag) (x .next) (x .value .size)
 stepAnswer (error s o) = refusedStep s o
+
+-- the entry at p of a region; one that is longer than a file may be is 1 at 0. Past the region's end it is as at the end: 2 at p
+unfoldable pub entryIn : List ℕ → (p : ℕ) → Outcome (Decoded ℕ EntryHead)
+entryIn region p = guard (leb (length region) maxFile) 1 0 >>= λ _. entryStart p (drop p region)

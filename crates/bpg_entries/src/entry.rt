@@ -3,6 +3,7 @@ use crate::animation;
 use crate::animation::Animation;
 use bpg_bytes::BytePos;
 use bpg_format::Entry;
+use bpg_format::MAX_FILE;
 use bpg_format::Range;
 use bpg_format::zero_entry;
 use bpg_numbers::ue7;
@@ -12,7 +13,7 @@ ghost use Prim.Native.Nat.{_+_, _≤_};
 ghost use lib.ListN.{length as count, take, drop};
 ghost use Rattle.bpg_format.specs.Limits.{maxFile};
 ghost use Rattle.bpg_entries.specs.Animations.{animationAnswer};
-ghost use Rattle.bpg_entries.specs.Entries.{entryStart, refusedStep, foundStep, stepAnswer, animationControl};
+ghost use Rattle.bpg_entries.specs.Entries.{entryStart, refusedStep, foundStep, stepAnswer, animationControl, entryIn};
 
 // Status 0, the entry, and the offset after it; or a refusal.
 pub struct Step {
@@ -82,4 +83,17 @@ pub(crate) fn control(region: &[u8], at: BytePos, seen: bool, step: Step) -> Ani
     }
     let end = step.next.0;
     animation::read(&region[0..end], BytePos(step.entry.payload.start as usize))
+}
+
+// The entry at `at`, for any region and offset: a region longer than a file is refused, and an offset past the region.
+pub fn read_checked(region: &[u8], at: BytePos) -> Step
+    ensures { λ r. ⌜ r ≡ stepAnswer (entryIn (now (region .entry)) (at .0)) ⌝ }
+{
+    if MAX_FILE < region.len() {
+        return refused(1, BytePos(0));
+    }
+    if region.len() < at.0 {
+        return refused(2, at);
+    }
+    read(region, at)
 }

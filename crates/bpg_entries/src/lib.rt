@@ -1,4 +1,4 @@
 // The extension block of a BPG file: its entries, and the animation control of tag 5.
 pub mod animation;
 pub mod block;
-mod entry;
+pub mod entry;

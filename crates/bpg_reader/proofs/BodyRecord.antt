@@ -43,7 +43,7 @@ module _ (h : Head) (l : List ℕ) (es : List Extension) (e : readBlock h l ≡ 
   unfolding readBlock
   block-fits = unguard (leb (h .extensionLength) (length l)) 2 (h .extensionLengthAt) _ e λ t _. leb→le (h .extensionLength) (length l) t
 
-  block-size : All Byte l → length (blockBytes es) ≡ h .extensionLength
+  pub block-size : All Byte l → length (blockBytes es) ≡ h .extensionLength
   unfolding readBlock
   block-size bytes =
       unguard (leb (h .extensionLength) (length l)) 2 (h .extensionLengthAt) _ e λ t e1.

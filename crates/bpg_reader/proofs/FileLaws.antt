@@ -6,7 +6,7 @@ use Prim.Native.Nat.{ℕ, _≤_, _<_}
 use native.Mathlib.Omega.{arith}
 use lib.ListN.{length, drop}
 use borrow.Author.Tests.{le-leb, lt-leb}
-use Rattle.bpg_codec.specs.Outcome.{ok, error}
+use Rattle.bpg_codec.specs.Outcome.{ok, error, _>>=_}
 use Rattle.bpg_codec.proofs.Answers.{refused-error, accepted-value}
 use Rattle.bpg_format.specs.Limits.{maxFile}
 use Rattle.bpg_format.specs.Zero.{refusedReading}
@@ -22,10 +22,13 @@ pub too-long : (file : List ℕ) → maxFile < length file → refusedReading 1 
 unfolding readFile readContent
 too-long file h = rw (lt-leb (length file) maxFile h)
 
+pub head-content : (file : List ℕ) → length file ≤ maxFile → readContent file ≡ (readHead file >>= λ h. readBody h (drop (h .end) file))
+unfolding readContent
+head-content file short = rw (le-leb (length file) maxFile short)
+
 module _ (file : List ℕ) (short : length file ≤ maxFile) (head : Head) (read : head ≡ headAnswer (readHead file)) where
   refused-with : (s o : ℕ) → readHead file ≡ error s o → readContent file ≡ error s o
-  unfolding readContent
-  refused-with s o e = rw (le-leb (length file) maxFile short, e)
+  refused-with s o e = head-content file short ∙ rw e
 
   pub head-refused : head .status ≢ 0 → refusedReading (head .status) (head .offset .0) ≡ readFile file
   unfolding readFile

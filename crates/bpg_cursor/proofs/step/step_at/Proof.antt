@@ -1,36 +1,40 @@
--- `step::step_at` meets its contract. Assumes nothing.
-use mathlib.Core.Path.{sym, _∙_}
+-- `step::step_at` meets its contract.
+use mathlib.Core.Path.{_≡_, refl, sym, ap, _∙_}
+use mathlib.Core.Logic.{_≢_}
+use mathlib.Core.List.{List}
+use Prim.Native.Nat.{ℕ}
 use native.Mathlib.Omega.{arith}
-use Rattle.bpg_codec.proofs.Tokens.{all-bytes}
-use Rattle.bpg_reader.proofs.PartLaws.{count-most}
-use Rattle.bpg_cursor.proofs.CursorLaws.{found-below, step-found, step-absent}
 use borrow.Author.Needs.{needs}
+use Rattle.bpg_codec.specs.Outcome.{error}
+use Rattle.bpg_codec.proofs.Answers.{refused-error, accepted-value}
+use Rattle.bpg_entries.specs.declared.entry.Step.{Step as Read}
+use Rattle.bpg_entries.specs.Entries.{stepAnswer, entryIn}
+use Rattle.bpg_entries.proofs.CheckedEntry.{entry-refuses}
+use Rattle.bpg_reader.specs.declared.parts.EntryAt.{EntryAt}
+use Rattle.bpg_cursor.specs.declared.step.Step.{Step}
+use Rattle.bpg_cursor.specs.Cursors.{stepOf, stepAt}
 use Rattle.bpg_cursor.proofs.step.step_at.Statement.{statement}
 use Rattle.bpg_cursor.proofs.step.step_at.Tie as tie
 
-entry-at-requires : tie.Need-entry-at-requires
-entry-at-requires c κs = search needs
+-- the step of an entry that was read
+abbrev found : Read → Step
+found t = record { answer = EntryAt.Found (t .entry); next = t .next }
 
-enum-told : tie.Need-enum-told
-enum-told c = search needs
+module _ (region : List ℕ) (p : ℕ) (t : Read) (e : t ≡ stepAnswer (entryIn region p)) where
+  step-absent : t .status ≢ 0 → stepOf p (error 0 0) ≡ stepAt region p
+  step-absent n = refused-error stepAnswer (λ x. x .status) (λ _. refl) (λ _ _. refl) (entryIn region p) t e n λ s o w. rw w
 
--- an entry's index is below 16
-add-next : tie.Need-add-next
-add-next c =
-    let r = c .before .before in
-    let file = r .before .before .args .file .now in
-    let most = count-most file (all-bytes file (λ i. omega (arith, r .before .shared-slice-known .given i))) in
-    omega (arith, most, found-below file (r .before .before .args .index) _ (sym (c .enum-told .given .1) ∙ r .entry-at .ensures))
-
-enum-told-2 : tie.Need-enum-told-2
-enum-told-2 c = search needs
+  step-found : t .status ≡ 0 → found t ≡ stepAt region p
+  step-found z =
+      accepted-value stepAnswer (λ x. x .status) (λ _. refl) (λ _ _. refl) (entryIn region p) t e z
+      (λ s o w k. omega (arith, entry-refuses region p s o w)) λ x w.
+      ap found (e ∙ ap stepAnswer w) ∙ ap (stepOf p) (sym w)
 
 returns : tie.Need-returns
-returns c = let r = c .before .before in step-found _ _ _ _ _ (r .entry-at .ensures) (c .enum-told .given .1) (omega arith)
+returns c = let r = c .before .before in step-absent _ _ (r .read-checked .result) (r .read-checked .ensures) (c .if1 .taken)
 
 returns-2 : tie.Need-returns-2
-returns-2 c = let r = c .before .before in step-absent _ _ _ _ (r .entry-at .ensures) (c .enum-told2 .given .1) (omega arith)
+returns-2 c = let r = c .before .before .before .before in step-found _ _ (r .read-checked .result) (r .read-checked .ensures) (c .before .before .if1 .left)
 
 pub step-at-spec : {M : Type 1} → statement M
-step-at-spec =
-    tie.close (tie.spec entry-at-requires enum-told add-next enum-told-2 returns returns-2)
+step-at-spec = tie.close (tie.spec (λ c κs. search needs) returns returns-2)

@@ -1,0 +1,33 @@
+// Where the extension block of a file lies.
+use crate::file::read;
+use bpg_bytes::BytePos;
+use bpg_head::head;
+ghost use mathlib.Core.Path.{_≡_};
+ghost use Rattle.bpg_reader.specs.Bounds.{blockBounds};
+
+// The offsets of the first entry and after the last.
+pub struct BlockBounds {
+    pub start: BytePos,
+    pub end: BytePos,
+}
+
+// Of a refused file both are 0; of a file without entries both are where the block is or would be. The head is read a second
+// time, which costs little beside the rest: the record does not have its end.
+pub fn block_bounds(file: &[u8]) -> BlockBounds
+    ensures { λ r. ⌜ r ≡ blockBounds (now (file .entry)) ⌝ }
+{
+    let reading = read(file);
+    if reading.status != 0 {
+        return BlockBounds {
+            start: BytePos(0),
+            end: BytePos(0),
+        };
+    }
+    let head = head::read(file);
+    let start = head.end;
+    let end = start.0 + head.extension_length as usize;
+    BlockBounds {
+        start,
+        end: BytePos(end),
+    }
+}
