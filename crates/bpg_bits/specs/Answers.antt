@@ -10,7 +10,7 @@ abbrev pub bitOutcome : (item : ℕ) → BitNumber → Outcome (ℕ × ℕ)
 bitOutcome i (Value v p) = ok (v, p .0)
 bitOutcome i Missing = error 15 i
 
--- a refusal's place is the caller's to say: whatever the item, the answer is the same
+-- the same for each item, since the answer does not say where the number was missing
 abbrev pub bitAnswer : Outcome (ℕ × ℕ) → BitNumber
 bitAnswer (ok x) = Value (x .0) (bitPos (x .1))
 bitAnswer (error s o) = Missing

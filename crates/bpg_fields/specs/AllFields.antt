@@ -16,7 +16,7 @@ use Rattle.bpg_fields.specs.declared.all_fields.Fields.{Fields}
 abbrev pub missingFields : Fields
 missingFields = record { found = false; header = zeroHeader; next = bitPos 0 }
 
--- a refusal's place is the caller's to say: whatever the item, the answer is the same
+-- the same for each item, since the answer does not say where the fields were missing
 abbrev pub fieldsAnswer : Outcome (Header × ℕ) → Fields
 fieldsAnswer (ok x) = record { found = true; header = x .0; next = bitPos (x .1) }
 fieldsAnswer (error s o) = missingFields

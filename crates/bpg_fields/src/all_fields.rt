@@ -65,7 +65,7 @@ fn read_rest(region: &[u8], at: BitPos, header: Header) -> Fields
     }
 }
 
-// All fields from `at` on. The answer is the same for each item that they may stand in: here it is 0.
+// All fields from `at` on. The item that a missing one is refused at is the caller's, so here it is 0.
 pub fn read(region: &[u8], at: BitPos) -> Fields
     ensures { λ r. ⌜ r ≡ fieldsAnswer (decodeAt (regionBits (now (region .entry))) headerFields 0 (at .0)) ⌝ }
 {
