@@ -68,7 +68,7 @@ entryCount f = readFile f .«record» .«entry_count»
 
 -- "yields one entry at a time, as tag and range": call k of `next`, k from 0, gives entry k
 pub record InOrder (file : RefT (List ℕ)) (start : Cursor) : Type 0 where
-  -- "keeps the file with it"
+  -- "keeps the file with it": the part that `New` names
   pub same-region : (k : ℕ) → after k start .region ≡ start .region
   -- the offset of entry k; after the last it stays, at the end of the block
   pub offset : (c : Content) → Rules c → now file ≡ fileOf c → (k : ℕ)
@@ -83,6 +83,6 @@ pub record InOrder (file : RefT (List ℕ)) (start : Cursor) : Type 0 where
   -- "A refused file yields none"
   pub refused : readFile (now file) .status ≢ 0 → (k : ℕ) → yielded (after k start) ≡ EntryAt.Absent
 
--- a file is a list of bytes
+-- of every cursor that `new` makes of a slice of bytes
 abbrev pub EntriesInOrder : Type 0
 EntriesInOrder = (file : RefT (List ℕ)) → All Byte (now file) → (start : Cursor) → New file start → InOrder file start

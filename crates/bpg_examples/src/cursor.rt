@@ -1,6 +1,7 @@
 // Takes a cursor over the entries of a file and prints a line: the file, and 18 answers of the cursor, two more than a file has entries.
 use crate::hex;
 use crate::text;
+use bpg_bytes::BytePos;
 use bpg_format::Entry;
 use bpg_reader::EntryAt;
 
@@ -17,16 +18,25 @@ fn show_answer(answer: EntryAt) {
     }
 }
 
-pub(crate) fn show(file: &[u8]) {
-    hex::show(file);
-    let mut index: usize = 0;
-    let mut left: usize = 18;
+// The 17 answers after the first, of a cursor that then stands at `at`.
+fn show_rest(region: &[u8], at: BytePos) {
+    let mut next = at;
+    let mut left: usize = 17;
     while 0 < left {
-        let step = bpg_cursor::resume(file, index);
+        let step = bpg_cursor::resume(region, next);
         let answer = step.answer;
         show_answer(answer);
-        index = step.next;
+        next = step.next;
         left -= 1;
     }
+}
+
+pub(crate) fn show(file: &[u8]) {
+    hex::show(file);
+    let first = bpg_cursor::first(file);
+    let answer = first.answer;
+    show_answer(answer);
+    let bounds = bpg_reader::block_bounds(file);
+    show_rest(bpg_cursor::region_to(file, bounds.end), first.next);
     text::show(b"\n");
 }

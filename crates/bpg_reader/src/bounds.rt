@@ -11,8 +11,8 @@ pub struct BlockBounds {
     pub end: BytePos,
 }
 
-// Of a refused file both are 0; of a file without entries both are where the block is or would be. The head is read a second
-// time, which costs little beside the rest: the record does not have its end.
+// Of a refused file both are 0; of a file without entries both are where the first would stand. The head is read a second time,
+// which costs next to nothing: the record does not say where it ends.
 pub fn block_bounds(file: &[u8]) -> BlockBounds
     ensures { λ r. ⌜ r ≡ blockBounds (now (file .entry)) ⌝ }
 {
