@@ -4,8 +4,8 @@ use borrow.Author.Needs.{needs}
 use Rattle.bpg_export.proofs.bpg_write.Statement.{statement}
 use Rattle.bpg_export.proofs.bpg_write.Tie as tie
 
-read-requires : tie.Need-read-requires
-read-requires c κs = search needs
+truncated-requires : tie.Need-truncated-requires
+truncated-requires c κs = search needs
 
 check-requires : tie.Need-check-requires
 check-requires c κs = search needs
@@ -15,7 +15,7 @@ returns c =
     let k = c .before in
     let r = k .before in
     let a = r .before .before .before .before .args in
-    list-refused (a .numbers .now) (a .source .now) (a .out .now) (r .read .result) (r .read .ensures) (k .check .result) (k .check .ensures) (c .if1 .taken)
+    list-refused (a .numbers .now) (a .source .now) (a .out .now) (r .truncated .result) (r .truncated .ensures) (k .check .result) (k .check .ensures) (c .if1 .taken)
 
 write-requires : tie.Need-write-requires
 write-requires c κs = search needs
@@ -30,8 +30,8 @@ returns-2 c =
     let k = e .before in
     let r = k .before in
     let a = r .before .before .before .before .args in
-    as-record (a .numbers .now) (a .source .now) (a .out .now) (r .read .result) (r .read .ensures) (k .check .result) (k .check .ensures) (e .if1 .left) _ _
+    as-record (a .numbers .now) (a .source .now) (a .out .now) (r .truncated .result) (r .truncated .ensures) (k .check .result) (k .check .ensures) (e .if1 .left) _ _
     (w .write .ensures .0) (w .write .ensures .1)
 
 pub bpg-write-spec : {M : Type 1} → statement M
-bpg-write-spec = tie.close (tie.spec read-requires check-requires returns write-requires same-length returns-2)
+bpg-write-spec = tie.close (tie.spec truncated-requires check-requires returns write-requires same-length returns-2)
