@@ -1,4 +1,4 @@
--- What the calls answer in each case. Assumes nothing.
+-- What the calls answer in each case.
 use mathlib.Core.Path.{_≡_, refl, sym, ap, _∙_}
 use mathlib.Core.Logic.{_≢_}
 use mathlib.Core.Bool.{Bool, true, false}

@@ -1,4 +1,4 @@
--- The theorems of the calls over lists. Assumes nothing.
+-- The theorems of the calls over lists.
 use mathlib.Core.Path.{_≡_, ap, _∙_}
 use mathlib.Core.List.{List, [], _∷_, _++_, append-assoc}
 use Prim.Native.Nat.{ℕ}

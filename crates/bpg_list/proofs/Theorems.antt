@@ -1,4 +1,4 @@
--- The theorems of the lists. Assumes nothing.
+-- The theorems of the lists.
 use mathlib.Core.Path.{_≡_, refl, sym, ap, ap₂, _∙_, subst}
 use mathlib.Core.Logic.{_↔_}
 use mathlib.Core.Bool.{Bool, true, false, _&&_}

@@ -1,14 +1,8 @@
--- `bpg_write` meets its contract. Assumes nothing.
+-- `bpg_write` meets its contract.
 use Rattle.bpg_export.proofs.CallLaws.{list-refused, as-record}
 use borrow.Author.Needs.{needs}
 use Rattle.bpg_export.proofs.bpg_write.Statement.{statement}
 use Rattle.bpg_export.proofs.bpg_write.Tie as tie
-
-truncated-requires : tie.Need-truncated-requires
-truncated-requires c κs = search needs
-
-check-requires : tie.Need-check-requires
-check-requires c κs = search needs
 
 returns : tie.Need-returns
 returns c =
@@ -16,12 +10,6 @@ returns c =
     let r = k .before in
     let a = r .before .before .before .before .args in
     list-refused (a .numbers .now) (a .source .now) (a .out .now) (r .truncated .result) (r .truncated .ensures) (k .check .result) (k .check .ensures) (c .if1 .taken)
-
-write-requires : tie.Need-write-requires
-write-requires c κs = search needs
-
-same-length : tie.Need-same-length
-same-length c = search needs
 
 returns-2 : tie.Need-returns-2
 returns-2 c =
@@ -34,4 +22,8 @@ returns-2 c =
     (w .write .ensures .0) (w .write .ensures .1)
 
 pub bpg-write-spec : {M : Type 1} → statement M
-bpg-write-spec = tie.close (tie.spec truncated-requires check-requires returns write-requires same-length returns-2)
+bpg-write-spec =
+    tie.close
+    (tie.spec
+    (λ c κs. search needs) (λ c κs. search needs) returns (λ c κs. search needs) (λ c. search needs)
+    returns-2)

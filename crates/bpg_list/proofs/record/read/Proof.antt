@@ -16,4 +16,7 @@ returns-2 c =
     kept (k .before .before .before .args .numbers .now) _ (k .before .truncated .ensures) (sym (k .check .ensures) ∙ c .if1 .left)
 
 pub read-spec : {M : Type 1} → statement M
-read-spec = tie.close (tie.spec (λ c κs. search needs) (λ c κs. search needs) (λ c κs. search needs) returns returns-2)
+read-spec =
+    tie.close
+    (tie.spec
+    (λ c κs. search needs) (λ c κs. search needs) (λ c κs. search needs) returns returns-2)
