@@ -1,4 +1,4 @@
--- The rules in file order, by the first that is broken. Assumes nothing.
+-- The rules in file order, by the first that is broken.
 use mathlib.Core.Path.{_≡_, sym, ap, _∙_}
 use mathlib.Core.Bool.{Bool, true, false, not, _&&_, _||_}
 use mathlib.Core.Logic.{_≢_}
@@ -81,13 +81,6 @@ module _ (r : Record) (source : List ℕ) where
 
 -- ---- after the entries
 
-module _ (a b : Bool) where
-  pub not-animated : a ≡ false → true ≡ (not a || b)
-  not-animated e = rw e
-
-  pub animated : (t : Bool) → a ≡ true → t ≡ b → t ≡ (not a || b)
-  animated t e f = rw e f
-
 module _ (depth : ℕ) (r : Record) where
   pub no-alpha : (r .«alpha1_flag» || r .«alpha2_flag») ≡ false → 0 ≡ statusOf (checkAlpha depth r)
   unfolding checkAlpha
@@ -107,7 +100,7 @@ module _ (r : Record) (source : List ℕ) where
   abbrev pub depth : ℕ
   depth = r .«bit_depth_minus_8» + 8
 
-  abbrev controlled : Bool
+  abbrev pub controlled : Bool
   controlled = not (r .«animation_flag») || hasLoop (map (extensionOf source) (usedEntries r))
 
   pub control-missing : controlled ≡ false → 14 ≡ statusOf (checkHeaders (contentOf r source))

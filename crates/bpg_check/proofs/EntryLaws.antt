@@ -1,11 +1,10 @@
--- The entries of a record, one at a time: `es` has those in use first, which are n. Assumes nothing.
+-- The entries of a record, one at a time: `es` has those in use first, which are n.
 use mathlib.Core.Path.{_≡_, refl, sym, ap, _∙_, subst}
 use mathlib.Core.Bool.{Bool, true, false, not, _&&_, _||_, and-false}
 use mathlib.Core.Logic.{_≢_}
 use mathlib.Core.List.{List, [], _∷_, map}
 use Prim.Native.Nat.{ℕ, zero, suc, _+_, _≤_, _<_}
 use native.Mathlib.Omega.{arith}
-use lib.Dec.{eqb}
 use lib.ListN.{length, take, drop, getD, length-take, drop-of-length-le}
 use lib.Seq.{getD-take, length-take-le}
 use borrow.Author.Tests.{eq-eqb, ne-eqb}
@@ -69,33 +68,9 @@ pub used-inside : (source : List ℕ) (es : List Entry) (n k : ℕ) (d : Entry) 
 used-inside source es n k d m e h =
     subst (λ (x : Entry). inSource source (x .payload) ≡ true) (getD-take n es k d h) (at-inside source (take n es) k d e (omega (arith, length-take-le n es m)))
 
-module _ (source : List ℕ) (r : Record) where
-  pub payloads-broken : entriesInSource source (usedEntries r) ≡ false → false ≡ rangesInSource source r
-  unfolding rangesInSource
-  payloads-broken a = rw a
-
-  pub data-decides : (t : Bool) → entriesInSource source (usedEntries r) ≡ true → t ≡ inSource source (r .«data») → t ≡ rangesInSource source r
-  unfolding rangesInSource
-  data-decides t a e = e ∙ rw a
-
-  pub payloads-held : rangesInSource source r ≡ true → entriesInSource source (usedEntries r) ≡ true
-  unfolding rangesInSource
-  payloads-held e = both (entriesInSource source (usedEntries r)) (inSource source (r .«data»)) e .0
-
--- ---- three numbers compared, as for an entry that is zero and for loop numbers that are the same
-
-module _ (a b c x y z : ℕ) where
-  abbrev same : Bool
-  same = eqb a x && (eqb b y && eqb c z)
-
-  pub first-differs : a ≢ x → false ≡ same
-  first-differs n = rw (ne-eqb _ _ n)
-
-  pub second-differs : a ≡ x → b ≢ y → false ≡ same
-  second-differs e n = rw (eq-eqb _ _ e, ne-eqb _ _ n)
-
-  pub third-decides : a ≡ x → b ≡ y → eqb c z ≡ same
-  third-decides e f = rw (eq-eqb _ _ e, eq-eqb _ _ f)
+pub payloads-held : (source : List ℕ) (r : Record) → rangesInSource source r ≡ true → entriesInSource source (usedEntries r) ≡ true
+unfolding rangesInSource
+payloads-held source r e = both (entriesInSource source (usedEntries r)) (inSource source (r .«data»)) e .0
 
 -- ---- unused entries
 

@@ -1,4 +1,4 @@
--- The status of a header, by the first rule that is broken. Assumes nothing.
+-- The status of a header, by the first rule that is broken.
 use mathlib.Core.Path.{_≡_}
 use mathlib.Core.Bool.{true, false}
 use Prim.Native.Nat.{ℕ}

@@ -1,4 +1,4 @@
--- The status of a record is that of the first rule that is broken, and 0 where none is. Assumes nothing.
+-- The status of a record is that of the first rule that is broken, and 0 where none is.
 use mathlib.Core.Path.{_≡_, sym, ap, _∙_}
 use mathlib.Core.Bool.{true, false}
 use mathlib.Core.Logic.{_≢_}

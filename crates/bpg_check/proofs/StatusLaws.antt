@@ -1,4 +1,4 @@
--- The status of an outcome, step by step: a refusal ends the steps, and 0 leaves what follows. Assumes nothing.
+-- The status of an outcome, step by step: a refusal ends the steps, and 0 leaves what follows.
 use mathlib.Core.Path.{_≡_, refl, ap, subst}
 use mathlib.Core.Bool.{Bool, true, false}
 use mathlib.Core.Logic.{_≢_}

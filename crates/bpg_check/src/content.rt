@@ -5,12 +5,11 @@ use bpg_format::Record;
 use bpg_format::color_space_allowed;
 use bpg_format::has_alpha;
 ghost use mathlib.Core.Path.{_≡_};
-ghost use mathlib.Core.Bool.{true, not, _||_};
-ghost use mathlib.Core.List.{List, map};
+ghost use mathlib.Core.Bool.{true};
+ghost use mathlib.Core.List.{List};
 ghost use Prim.Native.Nat.{ℕ, _≤_};
 ghost use Rattle.bpg_format.specs.Limits.{maxEntries};
-ghost use Rattle.bpg_format.specs.Rules.{hasLoop};
-ghost use Rattle.bpg_format.specs.Records.{extensionOf, usedEntries, contentOf};
+ghost use Rattle.bpg_format.specs.Records.{usedEntries, contentOf};
 ghost use Rattle.bpg_format.specs.Write.{entriesInSource, checkContent};
 ghost use Rattle.bpg_check.specs.Check.{statusOf, checkPicture, checkAlpha, checkHeaders};
 
@@ -36,17 +35,6 @@ fn picture_status(record: Record) -> u8
     0
 }
 
-// Refusal 14: with the animation flag, an entry with tag 5 is there.
-fn control_fits(record: Record) -> bool
-    requires { ⌜ «record» .«entry_count» ≤ maxEntries ⌝ }
-    ensures { λ r. ⌜ ((source : List ℕ) → r ≡ (not («record» .«animation_flag») || hasLoop (map (extensionOf source) (usedEntries «record»)))) ⌝ }
-{
-    if !record.animation_flag {
-        return true;
-    }
-    entries::has_control(record)
-}
-
 fn alpha_status(record: Record, depth: u8) -> u8
     ensures { λ r. ⌜ r ≡ statusOf (checkAlpha depth «record») ⌝ }
 {
@@ -63,7 +51,9 @@ fn headers_status(record: Record) -> u8
     requires { ⌜ «record» .«bit_depth_minus_8» ≤ 6 ⌝ }
     ensures { λ r. ⌜ ((source : List ℕ) → r ≡ statusOf (checkHeaders (contentOf «record» source))) ⌝ }
 {
-    if !control_fits(record) {
+    // refusal 14: with the animation flag, an entry with tag 5 is there
+    let controlled = !record.animation_flag | entries::has_control(record);
+    if !controlled {
         return 14;
     }
     let depth = record.bit_depth_minus_8 + 8;

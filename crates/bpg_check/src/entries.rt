@@ -7,10 +7,9 @@ use bpg_format::MAX_ENTRIES;
 use bpg_format::Range;
 use bpg_format::Record;
 ghost use mathlib.Core.Path.{_≡_};
-ghost use mathlib.Core.Bool.{true, false, _||_};
+ghost use mathlib.Core.Bool.{true, false};
 ghost use mathlib.Core.List.{List, map};
 ghost use Prim.Native.Nat.{ℕ, _≤_};
-ghost use lib.Dec.{eqb};
 ghost use Rattle.bpg_format.specs.Limits.{maxEntries};
 ghost use Rattle.bpg_format.specs.Rules.{hasLoop};
 ghost use Rattle.bpg_format.specs.Records.{bytesIn, extensionOf, usedEntries, recordLoop};
@@ -20,13 +19,7 @@ ghost use Rattle.bpg_check.specs.Check.{statusOf, animationLoop, checkEn
 fn is_zero(entry: Entry) -> bool
     ensures { λ r. ⌜ r ≡ isZero entry ⌝ }
 {
-    if entry.tag != 0 {
-        return false;
-    }
-    if entry.payload.start != 0 {
-        return false;
-    }
-    entry.payload.length == 0
+    (entry.tag == 0) & ((entry.payload.start == 0) & (entry.payload.length == 0))
 }
 
 // Refusal 19: the entries that are not in use are zero.
@@ -68,13 +61,9 @@ pub(crate) fn has_control(record: Record) -> bool
 pub fn same_loop(record: Record, animation: Animation) -> bool
     ensures { λ r. ⌜ r ≡ sameLoop (recordLoop «record») (animationLoop animation) ⌝ }
 {
-    if record.loop_count != animation.loop_count {
-        return false;
-    }
-    if record.frame_period_num != animation.frame_period_num {
-        return false;
-    }
-    record.frame_period_den == animation.frame_period_den
+    (record.loop_count == animation.loop_count)
+        & ((record.frame_period_num == animation.frame_period_num)
+            & (record.frame_period_den == animation.frame_period_den))
 }
 
 // The payload of tag 5: its own refusals, then 19 if the record's loop numbers are others.
@@ -109,15 +98,6 @@ fn entry_status(record: Record, entry: Entry, seen: bool, source: &[u8]) -> u8
     control_status(record, payload, source)
 }
 
-fn seen_after(seen: bool, entry: Entry) -> bool
-    ensures { λ r. ⌜ r ≡ (seen || eqb (entry .tag) 5) ⌝ }
-{
-    if seen {
-        return true;
-    }
-    entry.tag == 5
-}
-
 // The entries in use, one after another.
 pub(crate) fn status(record: Record, source: &[u8]) -> u8
     requires { ⌜ «record» .«entry_count» ≤ maxEntries ⌝ }
@@ -134,7 +114,7 @@ pub(crate) fn status(record: Record, source: &[u8]) -> u8
         if number != 0 {
             return number;
         }
-        seen = seen_after(seen, entry);
+        seen = seen | (entry.tag == 5);
         k += 1;
     }
     0

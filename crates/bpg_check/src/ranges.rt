@@ -37,9 +37,6 @@ pub(crate) fn all_in(record: Record, source: &[u8]) -> bool
     requires { ⌜ «record» .«entry_count» ≤ maxEntries ⌝ }
     ensures { λ r. ⌜ r ≡ rangesInSource (now (source .entry)) «record» ⌝ }
 {
-    if !payloads_in(record, source) {
-        return false;
-    }
     let data = record.data;
-    is_in(data, source)
+    payloads_in(record, source) & is_in(data, source)
 }

@@ -1,4 +1,4 @@
--- The entries and headers of the canonical record, one after another. Assumes nothing.
+-- The entries and headers of the canonical record, one after another.
 use mathlib.Core.Path.{_≡_, refl, ap}
 use mathlib.Core.List.{List, [], _∷_, map}
 use Prim.Native.Nat.{ℕ, zero, suc, _<_, min}

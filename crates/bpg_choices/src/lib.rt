@@ -9,7 +9,7 @@ use bpg_rules::absent;
 ghost use mathlib.Core.Path.{_≡_};
 ghost use Prim.Native.Nat.{min};
 ghost use Rattle.bpg_format.specs.Limits.{maxEntries};
-ghost use Rattle.bpg_choices.specs.Records.{loopSize, canonicalEntry, hasRange, canonicalHeader, canonicalEntries, canonicalFlags, canonicalRecord};
+ghost use Rattle.bpg_choices.specs.Records.{loopSize, canonicalEntry, canonicalHeader, canonicalEntries, canonicalFlags, canonicalRecord};
 
 // How many bytes the three numbers of tag 5 take.
 fn loop_size(record: Record) -> u32
@@ -37,21 +37,11 @@ fn canonical_entry(entry: Entry, size: u32) -> Entry
     }
 }
 
-// One of the nine flags is set. An accepted file has none without the range flag.
-fn has_range(header: Header) -> bool
-    ensures { λ r. ⌜ r ≡ hasRange header ⌝ }
-{
-    if header.sps_range_extension_flag {
-        return !absent::no_range_flag(header);
-    }
-    false
-}
-
-// The SPS extension is there, with the range flag, where one of the nine flags is set.
+// The SPS extension is there, with the range flag, where one of the nine flags is set. An accepted file has none without the range flag.
 fn canonical_header(header: Header) -> Header
     ensures { λ r. ⌜ r ≡ canonicalHeader header ⌝ }
 {
-    let range = has_range(header);
+    let range = header.sps_range_extension_flag & !absent::no_range_flag(header);
     let mut canonical = header;
     canonical.sps_extension_present_flag = range;
     canonical.sps_range_extension_flag = range;

@@ -9,11 +9,11 @@ use Rattle.bpg_bytes.specs.Positions.{bytePos}
 use Rattle.bpg_format.specs.Limits.{maxEntries, maxFile}
 use Rattle.bpg_format.specs.Zero.{zeroEntry}
 use Rattle.bpg_format.specs.Content.{Extension}
-use Rattle.bpg_format.specs.Rules.{hasLoop}
+use Rattle.bpg_format.specs.Rules.{hasLoop, noLoop}
 use Rattle.bpg_format.specs.Read.{loopOf, readEntries}
 use Rattle.bpg_format.specs.Records.{entriesAt, padEntries}
 use Rattle.bpg_entries.specs.declared.block.Block.{Block}
-use Rattle.bpg_entries.specs.Animations.{refusedAnimation, loopAnswer}
+use Rattle.bpg_entries.specs.Animations.{loopAnswer}
 
 abbrev pub refusedBlock : (status offset : ℕ) → Block
 refusedBlock s o =
@@ -23,7 +23,7 @@ refusedBlock s o =
       «entry_count» = 0;
       entries = replicate maxEntries zeroEntry;
       animated = false;
-      animation = refusedAnimation 0 0;
+      animation = loopAnswer noLoop;
     }
 
 -- entries of a block whose first stands at p

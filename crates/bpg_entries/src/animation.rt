@@ -4,8 +4,9 @@ use bpg_numbers::ue7;
 use bpg_numbers::ue7::Number;
 ghost use mathlib.Core.Path.{_≡_};
 ghost use lib.ListN.{drop};
+ghost use Rattle.bpg_format.specs.Rules.{noLoop};
 ghost use Rattle.bpg_format.specs.Read.{readLoop};
-ghost use Rattle.bpg_entries.specs.Animations.{refusedAnimation, animationAnswer};
+ghost use Rattle.bpg_entries.specs.Animations.{refusedAnimation, loopAnswer, animationAnswer};
 
 // Status 0 and the numbers; or a refusal and zeros.
 pub struct Animation {
@@ -26,6 +27,13 @@ pub fn refused(status: u8, offset: BytePos) -> Animation
         frame_period_num: 0,
         frame_period_den: 0,
     }
+}
+
+// There is no animation control: all its numbers are zero.
+pub fn none() -> Animation
+    ensures { λ r. ⌜ r ≡ loopAnswer noLoop ⌝ }
+{
+    refused(0, BytePos(0))
 }
 
 // The numbers from `at` on, in a region that ends with the payload.

@@ -24,7 +24,7 @@ pub fn refused(status: u8, offset: BytePos) -> Block
     ensures { λ r. ⌜ r ≡ refusedBlock status (offset .0) ⌝ }
 {
     let entry = zero_entry();
-    let animation = animation::refused(0, BytePos(0));
+    let animation = animation::none();
     Block {
         status,
         offset,
@@ -54,7 +54,7 @@ pub fn read(region: &[u8], at: BytePos) -> Block
     let mut entries = [none; MAX_ENTRIES];
     let mut entry_count: u32 = 0;
     let mut animated = false;
-    let mut animation = animation::refused(0, BytePos(0));
+    let mut animation = animation::none();
     let mut next = at.0;
     while next < region.len() {
         if MAX_ENTRIES <= entry_count as usize {

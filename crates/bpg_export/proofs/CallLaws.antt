@@ -1,5 +1,5 @@
--- What the calls answer in each case. Assumes nothing.
-use mathlib.Core.Path.{_≡_, refl, sym, ap, ap₂, _∙_}
+-- What the calls answer in each case.
+use mathlib.Core.Path.{_≡_, refl, sym, ap, _∙_}
 use mathlib.Core.Logic.{_≢_}
 use mathlib.Core.Bool.{Bool, true, false}
 use mathlib.Core.List.{List}
@@ -9,7 +9,6 @@ use lib.ListN.{length}
 use borrow.Author.Tests.{eq-eqb, ne-eqb}
 use Rattle.bpg_codec.specs.Outcome.{Outcome, error, _>>=_, guard}
 use Rattle.bpg_codec.specs.Select.{select}
-use Rattle.bpg_codec.proofs.Select.{select-true, select-false}
 use Rattle.bpg_format.specs.declared.record.Entry.{Entry}
 use Rattle.bpg_format.specs.declared.record.Record.{Record}
 use Rattle.bpg_format.specs.declared.answer.Reading.{Reading}
@@ -18,8 +17,9 @@ use Rattle.bpg_format.specs.Zero.{zeroEntry}
 use Rattle.bpg_format.specs.Records.{readFile}
 use Rattle.bpg_format.specs.Parts.{entryOf}
 use Rattle.bpg_format.specs.Write.{writeOutcome, writtenAnswer, writtenBuffer, writeFile, writeBuffer}
-use Rattle.bpg_list.specs.Numbers.{recordLength, numbersOf, recordOf, beginsWith, numbersFit}
-use Rattle.bpg_list.specs.Calls.{listed, readList, listStatus}
+use Rattle.bpg_list.specs.Numbers.{recordLength, numbersFit}
+use Rattle.bpg_list.specs.Calls.{listed, truncatedList, listStatus}
+use Rattle.bpg_list.proofs.ReadLaws.{status-of}
 use Rattle.bpg_reader.specs.declared.parts.EntryAt.{EntryAt}
 use Rattle.bpg_reader.specs.Entries.{entryAnswer}
 use Rattle.bpg_reader.proofs.PartLaws.{entry-in}
@@ -38,25 +38,22 @@ read-listed file numbers reading w after e a b =
 
 -- ---- writing
 
-module _ (numbers source out : List ℕ) (r : Record) (read : r ≡ readList numbers) (status : ℕ) (checked : status ≡ listStatus numbers r) where
+module _ (numbers source out : List ℕ) (r : Record) (cut : r ≡ truncatedList numbers) (status : ℕ) (checked : status ≡ listStatus numbers r) where
   -- the list's refusal, or as the record is written
   abbrev judged : (status : ℕ) → Record → Outcome (List ℕ)
   judged s x = guard (eqb s 0) s 0 >>= λ _. writeOutcome (length out) x source
 
-  given : leb recordLength (length numbers) ≡ true → r ≡ recordOf numbers
-  given e = read ∙ select-true _ _ e
-
-  same : leb recordLength (length numbers) ≡ true → beginsWith (numbersOf r) numbers ≡ numbersFit numbers
-  same e = ap (λ (x : Record). beginsWith (numbersOf x) numbers) (given e)
-
   outcome : listOutcome (length out) numbers source ≡ judged status r
-  unfolding listOutcome
+  unfolding listOutcome select
   outcome = by (leb recordLength (length numbers)) (numbersFit numbers) refl refl
     where
+      of-list : status ≡ select (leb recordLength (length numbers)) (select (numbersFit numbers) 0 19) 20
+      of-list = checked ∙ status-of numbers r cut
+
       by : (long fit : Bool) → leb recordLength (length numbers) ≡ long → numbersFit numbers ≡ fit → listOutcome (length out) numbers source ≡ judged status r
-      by false fit e f = rw e (ap (λ (s : ℕ). judged s r) (sym (checked ∙ select-false _ _ e)))
-      by true true e f = rw (e, f) (ap₂ judged (sym (checked ∙ select-true _ _ e ∙ select-true _ _ (same e ∙ f))) (sym (given e)))
-      by true false e f = rw (e, f) (ap (λ (s : ℕ). judged s r) (sym (checked ∙ select-true _ _ e ∙ select-false _ _ (same e ∙ f))))
+      by false fit e f = rw (of-list, e)
+      by true true e f = rw (of-list, cut, e, f)
+      by true false e f = rw (of-list, e, f)
 
   -- status, count and the buffer after it
   abbrev Answers : (status count : ℕ) → List ℕ → Type 0

@@ -1,4 +1,4 @@
--- A record that was read is one that its types hold. Assumes nothing.
+-- A record that was read is one that its types hold.
 use mathlib.Core.Path.{_≡_, refl, sym, ap, subst}
 use mathlib.Core.Bool.{Bool, true, false}
 use mathlib.Core.List.{List, [], _∷_, map}

@@ -1,9 +1,8 @@
--- The theorems of the calls over lists. Assumes nothing.
+-- The theorems of the calls over lists.
 use mathlib.Core.Path.{_≡_, ap, _∙_}
 use mathlib.Core.List.{List, [], _∷_, _++_, append-assoc}
-use Prim.Native.Nat.{ℕ, _≤_}
-use native.Mathlib.Omega.{arith}
-use lib.ListN.{length, drop, length-append}
+use Prim.Native.Nat.{ℕ}
+use lib.ListN.{length, drop}
 use borrow.Author.Tests.{le-leb}
 use Rattle.bpg_codec.specs.Outcome.{Outcome}
 use Rattle.bpg_format.specs.declared.record.Record.{Record}
@@ -13,8 +12,7 @@ use Rattle.bpg_list.specs.Numbers.{recordLength, numbersOf, readingNumbers}
 use Rattle.bpg_list.specs.Typing.{TypedRecord}
 use Rattle.bpg_list.specs.Theorems.{ListOf}
 use Rattle.bpg_list.proofs.WriteLaws.{listed-ok}
-use Rattle.bpg_list.proofs.RecordLists.{numbers-length}
-use Rattle.bpg_list.proofs.Theorems.{list-theorems}
+use Rattle.bpg_list.proofs.Theorems.{list-theorems, long}
 use Rattle.bpg_export.specs.Calls.{readAnswer, readNumbers, listOutcome, writeAnswer, writeBytes}
 use Rattle.bpg_export.specs.Theorems.{CallTheorems}
 use Rattle.bpg_export.proofs.ReadTyped.{read-typed}
@@ -22,13 +20,10 @@ use Rattle.bpg_export.proofs.ReadTyped.{read-typed}
 -- ---- writing
 
 module _ (r : Record) (l source out : List ℕ) (t : TypedRecord r) (o : ListOf r l) where
-  long : recordLength ≤ length l
-  long = omega (arith, ap length (o .1), length-append (numbersOf r) (o .0), numbers-length r (o .0) t)
-
   outcome : listOutcome (length out) l source ≡ writeOutcome (length out) r source
   unfolding listOutcome
   outcome =
-      rw (le-leb recordLength (length l) long, list-theorems .fitting l .1 (r, t, o)) (ap (λ (x : Record). writeOutcome (length out) x source) (list-theorems .back r l t o))
+      rw (le-leb recordLength (length l) (long r l t o), list-theorems .fitting l .1 (r, t, o)) (ap (λ (x : Record). writeOutcome (length out) x source) (list-theorems .back r l t o))
 
   written : (writeAnswer l source out ≡ writeFile r source out) × (writeBytes l source out ≡ writeBuffer r source out)
   unfolding writeAnswer writeBytes writeFile writeBuffer

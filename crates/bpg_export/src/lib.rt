@@ -57,7 +57,7 @@ pub extern "C" fn bpg_write(numbers: &[u64], source: &[u8], out: &mut [u8], coun
     ensures { λ _. ⌜ now (count .exit) ≡ writeAnswer (now (numbers .entry)) (now (source .entry)) (now (out .entry)) .count ⌝ }
     ensures { λ _. ⌜ now (out .exit) ≡ writeBytes (now (numbers .entry)) (now (source .entry)) (now (out .entry)) ⌝ }
 {
-    let record = bpg_list::read(numbers);
+    let record = bpg_list::truncated(numbers);
     let status = bpg_list::check(numbers, record);
     if status != 0 {
         *count = 0;

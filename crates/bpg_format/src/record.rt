@@ -71,23 +71,14 @@ pub struct Record {
 pub fn has_alpha(alpha1: bool, alpha2: bool) -> bool
     ensures { λ r. ⌜ r ≡ (alpha1 || alpha2) ⌝ }
 {
-    if alpha1 {
-        return true;
-    }
-    alpha2
+    alpha1 | alpha2
 }
 
 // Refusal 6: a colour space is 0 to 4, and 0 in a gray picture.
 pub fn color_space_allowed(pixel_format: u8, color_space: u8) -> bool
     ensures { λ r. ⌜ r ≡ (leb «color_space» 4 && (not (eqb «pixel_format» 0) || eqb «color_space» 0)) ⌝ }
 {
-    if 4 < color_space {
-        return false;
-    }
-    if pixel_format != 0 {
-        return true;
-    }
-    color_space == 0
+    (color_space <= 4) & ((pixel_format != 0) | (color_space == 0))
 }
 
 pub fn zero_entry() -> Entry

@@ -1,5 +1,6 @@
 -- Laws of the lists of numbers, and of writing them.
 pub mod NumberLaws
 pub mod WriteLaws
+pub mod ReadLaws
 pub mod RecordLists
 pub mod Theorems

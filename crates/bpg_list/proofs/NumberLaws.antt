@@ -1,4 +1,4 @@
--- A record's list in parts, lists compared, and a list's entries. Assumes nothing.
+-- A record's list in parts, lists compared, and a list's entries.
 use mathlib.Core.Path.{_≡_, refl, sym, ap, ap₂, _∙_}
 use mathlib.Core.Bool.{Bool, true, false, _&&_, and-false, and-assoc}
 use mathlib.Core.List.{List, [], _∷_, _++_, map, append-assoc, append-nil}
@@ -12,6 +12,7 @@ use mir.Val.{boolByte}
 use Rattle.bpg_format.specs.Limits.{maxEntries}
 use Rattle.bpg_codec.specs.Bits.{bit}
 use Rattle.bpg_codec.specs.Buffer.{written}
+use Rattle.bpg_codec.proofs.Lists.{by-length}
 use Rattle.bpg_codec.proofs.Buffer.{length-splice, stored, written-written}
 use Rattle.bpg_format.specs.declared.record.Entry.{Entry}
 use Rattle.bpg_format.specs.declared.record.Header.{Header}
@@ -22,20 +23,6 @@ use Rattle.bpg_list.specs.Numbers.{loopStart, alphaStart, colorStart, da
 pub flag-number : (t : Bool) → boolByte t ≡ bit t
 flag-number true = refl
 flag-number false = refl
-
--- ---- lists of a known length
-
--- what holds of any n elements, one after the other
-abbrev pub OfAny : {A : Type 0} → ℕ → (List A → Type 0) → Type 0
-OfAny zero P = P []
-OfAny {A} (suc n) P = (x : A) → OfAny n (λ l. P (x ∷ l))
-
--- holds of a list of n
-pub by-length : {A : Type 0} (n : ℕ) (P : List A → Type 0) → OfAny n P → (l : List A) → length l ≡ n → P l
-by-length zero P p [] e = p
-by-length zero P p (x ∷ l) e = absurd (omega arith)
-by-length (suc n) P p [] e = absurd (omega arith)
-by-length (suc n) P p (x ∷ l) e = by-length n (λ m. P (x ∷ m)) (p x) l (omega arith)
 
 -- ---- the nine range flags
 

@@ -1,4 +1,4 @@
--- A record's list gives the record back, and so fits. Assumes nothing.
+-- A record's list gives the record back, and so fits.
 use mathlib.Core.Path.{_≡_, refl, sym, ap, ap₂, _∙_}
 use mathlib.Core.Bool.{Bool, true, false}
 use mathlib.Core.List.{List, [], _∷_, _++_, map, append-assoc}
@@ -12,13 +12,14 @@ use borrow.Author.Tests.{eq-eqb}
 use Rattle.bpg_format.specs.Limits.{maxEntries}
 use Rattle.bpg_codec.specs.Bits.{bit}
 use Rattle.bpg_codec.specs.Lawful.{All}
+use Rattle.bpg_codec.proofs.Lists.{by-length}
 use Rattle.bpg_format.specs.declared.record.Entry.{Entry}
 use Rattle.bpg_format.specs.declared.record.Header.{Header}
 use Rattle.bpg_format.specs.declared.record.Record.{Record}
 use Rattle.bpg_format.specs.Zero.{range}
 use Rattle.bpg_list.specs.Numbers.{loopStart, alphaStart, colorStart, dataStart, recordLength, headNumbers, rangeNumbers, entryNumbers, entriesNumbers, loopNumbers, headerNumbers, headersNumbers, numbersOf, entriesAt, rangeFlagsAt, headerAt, recordOf, beginsWith, numbersFit}
 use Rattle.bpg_list.specs.Typing.{OfBits, TypedHeader, TypedRecord}
-use Rattle.bpg_list.proofs.NumberLaws.{by-length, entries-length, header-length}
+use Rattle.bpg_list.proofs.NumberLaws.{entries-length, header-length}
 
 flag : (t : Bool) → eqb (bit t % 2) 1 ≡ t
 flag true = refl

@@ -1,21 +1,24 @@
--- The theorems of the lists. Assumes nothing.
+-- The theorems of the lists.
 use mathlib.Core.Path.{_≡_, refl, sym, ap, ap₂, _∙_, subst}
 use mathlib.Core.Logic.{_↔_}
 use mathlib.Core.Bool.{Bool, true, false, _&&_}
 use mathlib.Core.List.{List, [], _∷_, _++_}
-use Prim.Native.Nat.{ℕ, zero, suc, _+_, _%_, _^_, _<_}
+use Prim.Native.Nat.{ℕ, zero, suc, _+_, _%_, _^_, _≤_, _<_}
 use native.Mathlib.Omega.{arith}
 use lib.Dec.{eqb, eqb→eq, T}
-use lib.ListN.{length}
+use lib.ListN.{length, length-append}
+use borrow.Author.Tests.{le-leb}
 use Rattle.bpg_format.specs.Limits.{maxEntries}
 use Rattle.bpg_codec.specs.Bits.{bit}
 use Rattle.bpg_codec.specs.Lawful.{All}
+use Rattle.bpg_codec.proofs.Select.{select-true}
 use Rattle.bpg_format.specs.declared.record.Entry.{Entry}
 use Rattle.bpg_format.specs.declared.record.Record.{Record}
-use Rattle.bpg_list.specs.Numbers.{alphaStart, colorStart, entryNumbers, numbersOf, entriesAt, rangeFlagsAt, headerAt, recordOf, beginsWith, numbersFit}
+use Rattle.bpg_list.specs.Numbers.{alphaStart, colorStart, recordLength, entryNumbers, numbersOf, entriesAt, rangeFlagsAt, headerAt, recordOf, beginsWith, numbersFit}
+use Rattle.bpg_list.specs.Calls.{readList}
 use Rattle.bpg_list.specs.Typing.{OfBits, TypedHeader, TypedRecord}
 use Rattle.bpg_list.specs.Theorems.{ListOf, ListTheorems}
-use Rattle.bpg_list.proofs.RecordLists.{record-back, numbers-fit}
+use Rattle.bpg_list.proofs.RecordLists.{record-back, numbers-fit, numbers-length}
 
 -- ---- the record of any list is one that its types hold
 
@@ -86,8 +89,14 @@ back r l t o = ap recordOf (o .1) ∙ record-back r (o .0) t
 fits : (r : Record) (l : List ℕ) → TypedRecord r → ListOf r l → numbersFit l ≡ true
 fits r l t o = ap (λ (m : List ℕ). numbersFit m) (o .1) ∙ numbers-fit r (o .0) t
 
+pub long : (r : Record) (l : List ℕ) → TypedRecord r → ListOf r l → recordLength ≤ length l
+long r l t o = omega (arith, ap length (o .1), length-append (numbersOf r) (o .0), numbers-length r (o .0) t)
+
+read : (r : Record) (l : List ℕ) → TypedRecord r → ListOf r l → readList l ≡ r
+read r l t o = select-true _ _ (rw (le-leb recordLength (length l) (long r l t o), fits r l t o)) ∙ back r l t o
+
 fitting : (l : List ℕ) → (numbersFit l ≡ true) ↔ ((r : Record) × TypedRecord r × ListOf r l)
 fitting l = (λ e. (recordOf l, any-typed l, begins-sound (numbersOf (recordOf l)) l e), λ x. fits (x .0) l (x .1) (x .2))
 
 pub list-theorems : ListTheorems
-list-theorems = record { back = back; fitting = fitting }
+list-theorems = record { back = back; read = read; fitting = fitting }

@@ -1,4 +1,4 @@
--- What writing a reading's numbers answers in each case. Assumes nothing.
+-- What writing a reading's numbers answers in each case.
 use mathlib.Core.Path.{_≡_, refl, sym, ap, _∙_}
 use mathlib.Core.Logic.{_≢_}
 use mathlib.Core.Bool.{Bool, true, false}

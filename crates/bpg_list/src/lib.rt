@@ -5,3 +5,4 @@ mod record;
 pub use list::check;
 pub use list::write;
 pub use record::read;
+pub use record::truncated;

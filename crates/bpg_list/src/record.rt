@@ -1,9 +1,11 @@
-// From a list of numbers to the record that it gives: each number modulo what its field can hold.
+// From a list of numbers to the record that it gives. A number is read modulo what its field can hold, and the list is refused where that
+// changed any.
 use crate::list::ALPHA;
 use crate::list::COLOR;
 use crate::list::DATA;
 use crate::list::LOOP;
 use crate::list::RECORD;
+use crate::list::check;
 use bpg_format::Entry;
 use bpg_format::Header;
 use bpg_format::MAX_ENTRIES;
@@ -16,7 +18,7 @@ ghost use Prim.Native.Nat.{_+_, _≤_, _<_};
 ghost use lib.ListN.{length as count};
 ghost use Rattle.bpg_format.specs.Limits.{maxEntries};
 ghost use Rattle.bpg_list.specs.Numbers.{recordLength, flagAt, u8At, u16At, u32At, rangeAt, entryAt, entriesAt, rangeFlagsAt, headerAt, recordOf};
-ghost use Rattle.bpg_list.specs.Calls.{readList};
+ghost use Rattle.bpg_list.specs.Calls.{truncatedList, readList};
 
 const PERIOD_NUM: usize = LOOP + 1;
 
@@ -156,12 +158,24 @@ fn from(numbers: &[u64]) -> Record
     }
 }
 
-// The record that a list gives; the zero record where the list is too short. `check` tells whether its numbers are this record's.
-pub fn read(numbers: &[u64]) -> Record
-    ensures { λ r. ⌜ r ≡ readList (now (numbers .entry)) ⌝ }
+// The record of a list whose numbers are cut to their fields; the zero record where the list is too short. `check` tells whether any was
+// cut: a caller that asks for both spares the copy of a record that `read` makes.
+pub fn truncated(numbers: &[u64]) -> Record
+    ensures { λ r. ⌜ r ≡ truncatedList (now (numbers .entry)) ⌝ }
 {
     if numbers.len() < RECORD {
         return zero_record();
     }
     from(numbers)
+}
+
+// The record that a list gives; the zero record where the list is too short or a number does not fit its field.
+pub fn read(numbers: &[u64]) -> Record
+    ensures { λ r. ⌜ r ≡ readList (now (numbers .entry)) ⌝ }
+{
+    let record = truncated(numbers);
+    if check(numbers, record) != 0 {
+        return zero_record();
+    }
+    record
 }

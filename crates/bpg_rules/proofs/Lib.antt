@@ -1,4 +1,3 @@
 -- Laws of the rules on a header.
+pub mod FlagLaws
 pub mod RuleLaws
-pub mod CodedLaws
-pub mod AbsentLaws

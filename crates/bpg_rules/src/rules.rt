@@ -7,38 +7,25 @@ ghost use Rattle.bpg_format.specs.Tests.{noForbiddenBit, pcmAllowed, hevcAllowe
 pub fn no_forbidden_bit(h: Header) -> bool
     ensures { λ r. ⌜ r ≡ noForbiddenBit h ⌝ }
 {
-    if h.sps_extension_7bits != 0 {
-        return false;
-    }
-    if h.range_flags[3] {
-        return false;
-    }
-    if h.range_flags[4] {
-        return false;
-    }
-    if h.range_flags[6] {
-        return false;
-    }
-    !h.range_flags[8]
+    (h.sps_extension_7bits == 0)
+        & !h.range_flags[3]
+        & !h.range_flags[4]
+        & !h.range_flags[6]
+        & !h.range_flags[8]
 }
 
 // Refusal 16, the PCM sizes and depths.
 fn pcm_allowed(h: Header, depth: u8) -> bool
     ensures { λ r. ⌜ r ≡ pcmAllowed depth h ⌝ }
 {
-    if depth <= h.pcm_sample_bit_depth_luma_minus1 {
-        return false;
-    }
-    if depth <= h.pcm_sample_bit_depth_chroma_minus1 {
-        return false;
-    }
-    let min_cb = h.log2_min_luma_coding_block_size_minus3 as u64 + 3;
     let min_pcm = h.log2_min_pcm_luma_coding_block_size_minus3 as u64 + 3;
-    if min_pcm < min_cb {
-        return false;
-    }
+    let max_pcm = min_pcm + h.log2_diff_max_min_pcm_luma_coding_block_size as u64;
+    let luma = h.pcm_sample_bit_depth_luma_minus1 as u64 + 1;
+    let chroma = h.pcm_sample_bit_depth_chroma_minus1 as u64 + 1;
+    let most = depth as u64;
+    let min_cb = h.log2_min_luma_coding_block_size_minus3 as u64 + 3;
     let ctb = min_cb + h.log2_diff_max_min_luma_coding_block_size as u64;
-    min_pcm + h.log2_diff_max_min_pcm_luma_coding_block_size as u64 <= ctb
+    (luma <= most) & (chroma <= most) & (min_cb <= min_pcm) & (max_pcm <= ctb)
 }
 
 // Refusal 16; `depth` is the file's bit depth.
@@ -47,24 +34,12 @@ pub fn allowed(h: Header, depth: u8) -> bool
 {
     let min_cb = h.log2_min_luma_coding_block_size_minus3 as u64 + 3;
     let ctb = min_cb + h.log2_diff_max_min_luma_coding_block_size as u64;
-    if ctb < 4 {
-        return false;
-    }
-    if 6 < ctb {
-        return false;
-    }
     let min_tb = h.log2_min_transform_block_size_minus2 as u64 + 2;
-    if min_cb <= min_tb {
-        return false;
-    }
-    if ctb < min_tb + h.log2_diff_max_min_transform_block_size as u64 {
-        return false;
-    }
-    if ctb < h.max_transform_hierarchy_depth_intra as u64 + min_tb {
-        return false;
-    }
+    let max_tb = min_tb + h.log2_diff_max_min_transform_block_size as u64;
+    let deepest = h.max_transform_hierarchy_depth_intra as u64 + min_tb;
+    let blocks = (4 <= ctb) & (ctb <= 6) & (min_tb < min_cb) & (max_tb <= ctb) & (deepest <= ctb);
     if h.pcm_enabled_flag {
-        return pcm_allowed(h, depth);
+        return blocks & pcm_allowed(h, depth);
     }
-    true
+    blocks
 }

@@ -1,4 +1,4 @@
--- `canonical_entry` meets its contract. Assumes nothing.
+-- `canonical_entry` meets its contract.
 use mathlib.Core.Path.{sym}
 use borrow.Author.Tests.{eq-eqb, ne-eqb}
 use Rattle.bpg_codec.proofs.Select.{select-true, select-false}

@@ -1,16 +1,15 @@
--- `canonical_header` meets its contract. Assumes nothing.
+-- `canonical_header` meets its contract.
 use mathlib.Core.Path.{ap}
-use mathlib.Core.Bool.{Bool}
+use mathlib.Core.Bool.{Bool, not, _&&_}
 use Rattle.bpg_format.specs.Pictures.{pictureHeader, headerWith}
 use borrow.Author.Needs.{needs}
 use Rattle.bpg_choices.proofs.canonical_header.Statement.{statement}
 use Rattle.bpg_choices.proofs.canonical_header.Tie as tie
 
-has-range-requires : tie.Need-has-range-requires
-has-range-requires c κs = search needs
-
 returns : tie.Need-returns
-returns c = ap (λ (b : Bool). headerWith b b (pictureHeader (c .before .args .header))) (c .has-range .ensures)
+returns c =
+    let h = c .before .before .args .header in
+    ap (λ (none : Bool). let range = h .«sps_range_extension_flag» && not none in headerWith range range (pictureHeader h)) (c .before .no-range-flag .ensures)
 
 pub canonical-header-spec : {M : Type 1} → statement M
-canonical-header-spec = tie.close (tie.spec has-range-requires returns)
+canonical-header-spec = tie.close (tie.spec (λ c κs. search needs) returns)

@@ -1,4 +1,4 @@
--- `loop_size` meets its contract. Assumes nothing.
+-- `loop_size` meets its contract.
 use Prim.Native.Nat.{_≤_}
 use native.Mathlib.Omega.{arith}
 use Rattle.bpg_numbers.proofs.Ue7Laws.{size-most}
@@ -17,24 +17,6 @@ small c =
       omega (arith, c .size3 .ensures, size-most (r .«frame_period_den») (omega (arith, c .before .struct-known3 .given))),
     )
 
-cast-size : tie.Need-cast-size
-cast-size c = search needs
-
-size-requires : tie.Need-size-requires
-size-requires c κs = search needs
-
-cast-size-2 : tie.Need-cast-size-2
-cast-size-2 c = search needs
-
-size-requires-2 : tie.Need-size-requires-2
-size-requires-2 c κs = search needs
-
-cast-size-3 : tie.Need-cast-size-3
-cast-size-3 c = search needs
-
-size-requires-3 : tie.Need-size-requires-3
-size-requires-3 c κs = search needs
-
 add-result : tie.Need-add-result
 add-result c = omega (arith, small c .0, small c .1)
 
@@ -44,20 +26,9 @@ add-result-2 c = omega (arith, small c .0, small c .1, small c .2)
 cast-result : tie.Need-cast-result
 cast-result c = omega (arith, small c .0, small c .1, small c .2)
 
-returns : tie.Need-returns
-returns c = search needs
-
 pub loop-size-spec : {M : Type 1} → statement M
 loop-size-spec =
     tie.close
     (tie.spec
-    cast-size
-    size-requires
-    cast-size-2
-    size-requires-2
-    cast-size-3
-    size-requires-3
-    add-result
-    add-result-2
-    cast-result
-    returns)
+    (λ c. search needs) (λ c κs. search needs) (λ c. search needs) (λ c κs. search needs)
+    (λ c. search needs) (λ c κs. search needs) add-result add-result-2 cast-result (λ c. search needs))

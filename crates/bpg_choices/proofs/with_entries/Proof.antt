@@ -1,4 +1,4 @@
--- `with_entries` meets its contract: the first entries are changed. Assumes nothing.
+-- `with_entries` meets its contract: the first entries are changed.
 use mathlib.Core.Path.{_≡_, refl, ap, _∙_}
 use mathlib.Core.List.{List}
 use Prim.Native.Nat.{ℕ, suc, _+_, _-_, _≤_}
@@ -29,29 +29,8 @@ abbrev μ-loop : tie.MeasureT-loop
 whole : (c : tie.Start Inv-loop μ-loop) → length (c .args .«record» .entries) ≡ maxEntries
 whole c = entries-count (c .args .«record») (c .good .0)
 
-used-entries-requires : tie.Need-used-entries-requires Inv-loop μ-loop
-used-entries-requires c κs = search needs
-
 loop-holds : tie.Need-loop-holds Inv-loop μ-loop
 loop-holds c = (omega arith, omega (arith, c .used-entries .ensures), refl)
-
-mul-entry : tie.Need-mul-entry Inv-loop μ-loop
-mul-entry c = search needs
-
-element-copy-out-entry : tie.Need-element-copy-out-entry Inv-loop μ-loop
-element-copy-out-entry c = search needs
-
-canonical-entry-requires : tie.Need-canonical-entry-requires Inv-loop μ-loop
-canonical-entry-requires c κs = search needs
-
-mul-t8 : tie.Need-mul-t8 Inv-loop μ-loop
-mul-t8 c = search needs
-
-element-set-from-all : tie.Need-element-set-from-all Inv-loop μ-loop
-element-set-from-all c = search needs
-
-add-k : tie.Need-add-k Inv-loop μ-loop
-add-k c = search needs
 
 loop-less : tie.Need-loop-less Inv-loop μ-loop
 loop-less c = omega (arith, c .before .before .loop-test .taken)
@@ -86,16 +65,6 @@ pub with-entries-spec : {M : Type 1} → statement M
 with-entries-spec =
     tie.close
     (tie.spec
-    Inv-loop
-    μ-loop
-    used-entries-requires
-    loop-holds
-    mul-entry
-    element-copy-out-entry
-    canonical-entry-requires
-    mul-t8
-    element-set-from-all
-    add-k
-    loop-less
-    loop-again
-    returns)
+    Inv-loop μ-loop (λ c κs. search needs) loop-holds (λ c. search needs) (λ c. search needs)
+    (λ c κs. search needs) (λ c. search needs) (λ c. search needs) (λ c. search needs) loop-less
+    loop-again returns)

@@ -1,4 +1,4 @@
--- `with_flags` meets its contract. Assumes nothing.
+-- `with_flags` meets its contract.
 use mathlib.Core.Path.{_≡_, ap, ap₂, _∙_}
 use mathlib.Core.Bool.{false, not}
 use mathlib.Core.List.{List}
@@ -16,24 +16,6 @@ use Rattle.bpg_choices.proofs.with_flags.Tie as tie
 two : (s : tie.Start) → length (s .args .t1 .headers) ≡ 2
 two s = search headers-count
 
-element-copy-out-alpha : tie.Need-element-copy-out-alpha
-element-copy-out-alpha c = search needs
-
-element-copy-out-color : tie.Need-element-copy-out-color
-element-copy-out-color c = search needs
-
-canonical-header-requires : tie.Need-canonical-header-requires
-canonical-header-requires c κs = search needs
-
-element-set-from-all : tie.Need-element-set-from-all
-element-set-from-all c = search needs
-
-canonical-header-requires-2 : tie.Need-canonical-header-requires-2
-canonical-header-requires-2 c κs = search needs
-
-element-set-from-all-2 : tie.Need-element-set-from-all-2
-element-set-from-all-2 c = search needs
-
 returns : tie.Need-returns
 returns c =
     let s = c .before .before .before .before in
@@ -45,10 +27,5 @@ pub with-flags-spec : {M : Type 1} → statement M
 with-flags-spec =
     tie.close
     (tie.spec
-    element-copy-out-alpha
-    element-copy-out-color
-    canonical-header-requires
-    element-set-from-all
-    canonical-header-requires-2
-    element-set-from-all-2
-    returns)
+    (λ c. search needs) (λ c. search needs) (λ c κs. search needs) (λ c. search needs)
+    (λ c κs. search needs) (λ c. search needs) returns)

@@ -1,4 +1,4 @@
--- `bpg_entry` meets its contract. Assumes nothing.
+-- `bpg_entry` meets its contract.
 use mathlib.Core.Path.{sym, _∙_}
 use Rattle.bpg_reader.specs.declared.parts.EntryAt.{EntryAt}
 use Rattle.bpg_export.proofs.CallLaws.{answered}
@@ -6,14 +6,8 @@ use borrow.Author.Needs.{needs}
 use Rattle.bpg_export.proofs.bpg_entry.Statement.{statement}
 use Rattle.bpg_export.proofs.bpg_entry.Tie as tie
 
-entry-at-requires : tie.Need-entry-at-requires
-entry-at-requires c κs = search needs
-
 enum-told : tie.Need-enum-told
 enum-told c = search needs
-
-enum-known-entry : tie.Need-enum-known-entry
-enum-known-entry c = search needs
 
 returns : tie.Need-returns
 returns c =
@@ -28,5 +22,4 @@ returns-2 c =
     answered _ _ (EntryAt.Found _) e
 
 pub bpg-entry-spec : {M : Type 1} → statement M
-bpg-entry-spec =
-    tie.close (tie.spec entry-at-requires enum-told enum-known-entry returns returns-2)
+bpg-entry-spec = tie.close (tie.spec (λ c κs. search needs) enum-told (λ c. search needs) returns returns-2)

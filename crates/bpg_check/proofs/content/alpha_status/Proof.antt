@@ -1,4 +1,4 @@
--- `content::alpha_status` meets its contract. Assumes nothing.
+-- `content::alpha_status` meets its contract.
 use mathlib.Core.Path.{_≡_, sym, ap, _∙_}
 use native.Mathlib.Omega.{arith}
 use lib.ListN.{length}
@@ -17,17 +17,8 @@ use Rattle.bpg_check.proofs.content.alpha_status.Tie as tie
 two : (c : tie.Start) → length (c .args .t1 .headers) ≡ 2
 two c = search headers-count
 
-has-alpha-requires : tie.Need-has-alpha-requires
-has-alpha-requires c κs = search needs
-
 returns : tie.Need-returns
 returns c = no-alpha _ _ (sym (c .before .has-alpha .ensures) ∙ not-true _ (c .if1 .taken))
-
-element-copy-out-alpha : tie.Need-element-copy-out-alpha
-element-copy-out-alpha c = search needs
-
-status-requires : tie.Need-status-requires
-status-requires c κs = search needs
 
 returns-2 : tie.Need-returns-2
 returns-2 c =
@@ -38,4 +29,5 @@ returns-2 c =
 pub alpha-status-spec : {M : Type 1} → statement M
 alpha-status-spec =
     tie.close
-    (tie.spec has-alpha-requires returns element-copy-out-alpha status-requires returns-2)
+    (tie.spec
+    (λ c κs. search needs) returns (λ c. search needs) (λ c κs. search needs) returns-2)

@@ -1,5 +1,8 @@
--- `content::headers_status` meets its contract. Assumes nothing.
+-- `content::headers_status` meets its contract.
 use mathlib.Core.Path.{_≡_, sym, ap, _∙_}
+use mathlib.Core.Bool.{Bool, not, _||_}
+use mathlib.Core.List.{List}
+use Prim.Native.Nat.{ℕ}
 use native.Mathlib.Omega.{arith}
 use lib.ListN.{length}
 use borrow.Author.Tests.{not-true, not-false}
@@ -8,7 +11,7 @@ use Rattle.bpg_format.specs.Write.{checkHeader}
 use Rattle.bpg_format.proofs.Typed.{headers-count}
 use Rattle.bpg_check.specs.Check.{statusOf}
 use Rattle.bpg_check.proofs.ConsistentLaws.{header-at}
-use Rattle.bpg_check.proofs.ContentLaws.{depth, control-missing, alpha-stops, color-decides}
+use Rattle.bpg_check.proofs.ContentLaws.{depth, controlled, control-missing, alpha-stops, color-decides}
 use borrow.Author.Needs.{needs}
 use Rattle.bpg_check.proofs.content.headers_status.Statement.{statement}
 use Rattle.bpg_check.proofs.content.headers_status.Tie as tie
@@ -17,28 +20,17 @@ use Rattle.bpg_check.proofs.content.headers_status.Tie as tie
 two : (c : tie.Start) → length (c .args .t1 .headers) ≡ 2
 two c = search headers-count
 
-control-fits-requires : tie.Need-control-fits-requires
-control-fits-requires c κs = search needs
+-- the test of the animation flag is refusal 14's
+tested : (c : tie.After-has-control) (source : List ℕ) → controlled (c .before .args .t1) source ≡ (not (c .before .args .t1 .«animation_flag») || c .has-control .result)
+tested c source = sym (ap (λ (b : Bool). not (c .before .args .t1 .«animation_flag») || b) (c .has-control .ensures source))
 
 returns : tie.Need-returns
-returns c = λ source. control-missing _ source (sym (c .before .control-fits .ensures source) ∙ not-true _ (c .if1 .taken))
-
-add-depth : tie.Need-add-depth
-add-depth c = search needs
-
-alpha-status-requires : tie.Need-alpha-status-requires
-alpha-status-requires c κs = search needs
+returns c = λ source. control-missing _ source (tested (c .before) source ∙ not-true _ (c .if1 .taken))
 
 returns-2 : tie.Need-returns-2
 returns-2 c =
     let e = c .before .before in
-    λ source. alpha-stops _ source (sym (e .before .control-fits .ensures source) ∙ not-false _ (e .if1 .left)) _ (c .before .alpha-status .ensures) (c .if2 .taken)
-
-element-copy-out-color : tie.Need-element-copy-out-color
-element-copy-out-color c = search needs
-
-status-requires : tie.Need-status-requires
-status-requires c κs = search needs
+    λ source. alpha-stops _ source (tested (e .before) source ∙ not-false _ (e .if1 .left)) _ (c .before .alpha-status .ensures) (c .if2 .taken)
 
 returns-3 : tie.Need-returns-3
 returns-3 c =
@@ -46,18 +38,13 @@ returns-3 c =
     let e = a .before .before in
     let s = e .before .before in
     λ source.
-    color-decides _ source (sym (e .before .control-fits .ensures source) ∙ not-false _ (e .if1 .left)) _ (a .before .alpha-status .ensures) _ (a .if2 .left)
-    (c .status .ensures ∙ ap (λ (h : Header). statusOf (checkHeader (depth (s .args .t1) source) h)) (header-at _ (s .args .t1 .headers) 1 (two s) (omega arith)))
+    color-decides _ source (tested (e .before) source ∙ not-false _ (e .if1 .left)) _ (a .before .alpha-status .ensures) _ (a .if2 .left)
+    (c .status .ensures
+    ∙ ap (λ (h : Header). statusOf (checkHeader (depth (s .args .t1) source) h)) (header-at _ (s .args .t1 .headers) 1 (two s) (omega arith)))
 
 pub headers-status-spec : {M : Type 1} → statement M
 headers-status-spec =
     tie.close
     (tie.spec
-    control-fits-requires
-    returns
-    add-depth
-    alpha-status-requires
-    returns-2
-    element-copy-out-color
-    status-requires
-    returns-3)
+    (λ c κs. search needs) returns (λ c. search needs) (λ c κs. search needs) returns-2
+    (λ c. search needs) (λ c κs. search needs) returns-3)

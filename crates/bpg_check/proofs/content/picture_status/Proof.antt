@@ -1,4 +1,4 @@
--- `content::picture_status` meets its contract. Assumes nothing.
+-- `content::picture_status` meets its contract.
 use mathlib.Core.Path.{_≡_, sym, _∙_}
 use mathlib.Core.Bool.{true}
 use Prim.Native.Nat.{_≤_}
@@ -29,9 +29,6 @@ returns c = λ source. search format-large
 returns-2 : tie.Need-returns-2
 returns-2 c = λ source. search depth-large
 
-color-space-allowed-requires : tie.Need-color-space-allowed-requires
-color-space-allowed-requires c κs = search needs
-
 returns-3 : tie.Need-returns-3
 returns-3 c =
     let d = c .before .before in
@@ -58,10 +55,4 @@ pub picture-status-spec : {M : Type 1} → statement M
 picture-status-spec =
     tie.close
     (tie.spec
-    returns
-    returns-2
-    color-space-allowed-requires
-    returns-3
-    returns-4
-    returns-5
-    returns-6)
+    returns returns-2 (λ c κs. search needs) returns-3 returns-4 returns-5 returns-6)

@@ -1,21 +1,15 @@
--- `content::status` meets its contract. Assumes nothing.
+-- `content::status` meets its contract.
 use Rattle.bpg_check.proofs.ContentLaws.{depth-fits, picture-stops, entries-stop, headers-decide}
 use mathlib.Core.Path.{sym, _∙_}
 use borrow.Author.Needs.{needs}
 use Rattle.bpg_check.proofs.content.status.Statement.{statement}
 use Rattle.bpg_check.proofs.content.status.Tie as tie
 
-picture-status-requires : tie.Need-picture-status-requires
-picture-status-requires c κs = search needs
-
 returns : tie.Need-returns
 returns c =
     let p = c .before in
     let source = p .before .before .args .source .now in
     picture-stops _ source _ (p .picture-status .ensures source) (c .if1 .taken)
-
-status-requires : tie.Need-status-requires
-status-requires c κs = search needs
 
 returns-2 : tie.Need-returns-2
 returns-2 c =
@@ -43,9 +37,4 @@ pub status-spec : {M : Type 1} → statement M
 status-spec =
     tie.close
     (tie.spec
-    picture-status-requires
-    returns
-    status-requires
-    returns-2
-    headers-status-requires
-    returns-3)
+    (λ c κs. search needs) returns (λ c κs. search needs) returns-2 headers-status-requires returns-3)

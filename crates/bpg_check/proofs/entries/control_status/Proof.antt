@@ -1,4 +1,4 @@
--- `entries::control_status` meets its contract. Assumes nothing.
+-- `entries::control_status` meets its contract.
 use mathlib.Core.Path.{_≡_, sym, ap, _∙_}
 use borrow.Author.Tests.{not-true, not-false}
 use Rattle.bpg_check.proofs.EntryLaws.{payload-refused, loop-differs, loop-same}
@@ -27,32 +27,8 @@ module _ (c : tie.After-read) where
       let e : payload .start + payload .length - payload .start ≡ payload .length = omega arith in
       c .read .ensures ∙ ap (λ (n : ℕ). animationAnswer (readLoop 0 (take n (drop (payload .start) source)))) e
 
-cast-start : tie.Need-cast-start
-cast-start c = search needs
-
-cast-end : tie.Need-cast-end
-cast-end c = search needs
-
-add-end : tie.Need-add-end
-add-end c = search needs
-
-sub-read : tie.Need-sub-read
-sub-read c = search needs
-
-part-read-start : tie.Need-part-read-start
-part-read-start c = search needs
-
-part-read-end : tie.Need-part-read-end
-part-read-end c = search needs
-
-read-requires : tie.Need-read-requires
-read-requires c κs = search needs
-
 returns : tie.Need-returns
 returns c = let r = c .before .before in payload-refused _ _ (r .read .result) (answer r) (c .if1 .taken)
-
-same-loop-requires : tie.Need-same-loop-requires
-same-loop-requires c κs = search needs
 
 returns-2 : tie.Need-returns-2
 returns-2 c =
@@ -68,14 +44,5 @@ pub control-status-spec : {M : Type 1} → statement M
 control-status-spec =
     tie.close
     (tie.spec
-    cast-start
-    cast-end
-    add-end
-    sub-read
-    part-read-start
-    part-read-end
-    read-requires
-    returns
-    same-loop-requires
-    returns-2
-    returns-3)
+    (λ c. search needs) (λ c. search needs) (λ c. search needs) (λ c. search needs) (λ c. search needs)
+    (λ c. search needs) (λ c κs. search needs) returns (λ c κs. search needs) returns-2 returns-3)

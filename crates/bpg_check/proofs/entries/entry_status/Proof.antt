@@ -1,4 +1,4 @@
--- `entries::entry_status` meets its contract. Assumes nothing.
+-- `entries::entry_status` meets its contract.
 use Rattle.bpg_check.proofs.EntryLaws.{other-tag, second-control, first-control}
 use borrow.Author.Needs.{needs}
 use Rattle.bpg_check.proofs.entries.entry_status.Statement.{statement}
@@ -10,11 +10,8 @@ returns c = other-tag _ _ _ (c .if1 .taken)
 returns-2 : tie.Need-returns-2
 returns-2 c = second-control _ _ _ (c .before .if1 .left) (c .if2 .taken)
 
-control-status-requires : tie.Need-control-status-requires
-control-status-requires c κs = search needs
-
 returns-3 : tie.Need-returns-3
 returns-3 c = first-control _ _ _ (c .before .before .before .if1 .left) _ (c .before .before .if2 .left) (c .control-status .ensures)
 
 pub entry-status-spec : {M : Type 1} → statement M
-entry-status-spec = tie.close (tie.spec returns returns-2 control-status-requires returns-3)
+entry-status-spec = tie.close (tie.spec returns returns-2 (λ c κs. search needs) returns-3)

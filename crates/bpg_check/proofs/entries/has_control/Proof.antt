@@ -1,4 +1,4 @@
--- `entries::has_control` meets its contract. Assumes nothing.
+-- `entries::has_control` meets its contract.
 use mathlib.Core.Path.{_≡_, refl}
 use mathlib.Core.List.{List, map}
 use Prim.Native.Nat.{ℕ, _-_, _≤_}
@@ -27,25 +27,13 @@ whole c = search entries-count
 most : (c : tie.Start Inv-loop μ-loop) → c .args .«record» .«entry_count» ≤ length (c .args .«record» .entries)
 most c = omega (arith, c .pre, whole c)
 
-cast-count : tie.Need-cast-count Inv-loop μ-loop
-cast-count c = search needs
-
 loop-holds : tie.Need-loop-holds Inv-loop μ-loop
 loop-holds c = λ source. refl
-
-mul-entry : tie.Need-mul-entry Inv-loop μ-loop
-mul-entry c = search needs
-
-array-copy-out-entry : tie.Need-array-copy-out-entry Inv-loop μ-loop
-array-copy-out-entry c = search needs
 
 returns : tie.Need-returns Inv-loop μ-loop
 returns c =
     let l = c .before .before .before .before in
     λ source. control-found source _ _ _ (l .loop .inv source) _ (most (l .before .before .before)) (c .before .before .before .loop-test .taken) (c .if1 .taken)
-
-add-k : tie.Need-add-k Inv-loop μ-loop
-add-k c = search needs
 
 loop-less : tie.Need-loop-less Inv-loop μ-loop
 loop-less c = omega (arith, c .before .before .before .loop-test .taken)
@@ -62,14 +50,5 @@ pub has-control-spec : {M : Type 1} → statement M
 has-control-spec =
     tie.close
     (tie.spec
-    Inv-loop
-    μ-loop
-    cast-count
-    loop-holds
-    mul-entry
-    array-copy-out-entry
-    returns
-    add-k
-    loop-less
-    loop-again
-    returns-2)
+    Inv-loop μ-loop (λ c. search needs) loop-holds (λ c. search needs) (λ c. search needs) returns
+    (λ c. search needs) loop-less loop-again returns-2)

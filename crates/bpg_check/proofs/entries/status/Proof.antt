@@ -1,4 +1,4 @@
--- `entries::status` meets its contract: what is left of the entries gives the whole status. Assumes nothing.
+-- `entries::status` meets its contract: what is left of the entries gives the whole status.
 use mathlib.Core.Path.{_≡_, refl}
 use mathlib.Core.Bool.{false}
 use mathlib.Core.List.{map}
@@ -30,17 +30,8 @@ whole c = search entries-count
 most : (c : tie.Start Inv-loop μ-loop) → c .args .«record» .«entry_count» ≤ length (c .args .«record» .entries)
 most c = omega (arith, c .pre .0, whole c)
 
-cast-count : tie.Need-cast-count Inv-loop μ-loop
-cast-count c = search needs
-
 loop-holds : tie.Need-loop-holds Inv-loop μ-loop
 loop-holds c = refl
-
-mul-entry : tie.Need-mul-entry Inv-loop μ-loop
-mul-entry c = search needs
-
-array-copy-out-entry : tie.Need-array-copy-out-entry Inv-loop μ-loop
-array-copy-out-entry c = search needs
 
 entry-status-requires : tie.Need-entry-status-requires Inv-loop μ-loop
 entry-status-requires c κs =
@@ -52,12 +43,6 @@ returns c =
     let l = c .before .before .before .before in
     entry-stops _ _ _ _ _ _ (l .loop .inv) _ (most (l .before .before .before .before)) (c .before .before .before .loop-test .taken) _ (c .before .entry-status .ensures) (c .if1 .taken)
 
-seen-after-requires : tie.Need-seen-after-requires Inv-loop μ-loop
-seen-after-requires c κs = search needs
-
-add-k : tie.Need-add-k Inv-loop μ-loop
-add-k c = search needs
-
 loop-less : tie.Need-loop-less Inv-loop μ-loop
 loop-less c = omega (arith, c .before .before .before .before .loop-test .taken)
 
@@ -65,7 +50,7 @@ loop-again : tie.Need-loop-again Inv-loop μ-loop
 loop-again c =
     let s = c .before .before in
     let l = s .before .before .before in
-    entry-goes-on _ _ _ _ _ _ (l .loop .inv) _ (most (l .before .before .before .before)) (s .before .before .loop-test .taken) _ (s .entry-status .ensures) _ (c .before .if1 .left) (c .seen-after .ensures)
+    entry-goes-on _ _ _ _ _ _ (l .loop .inv) _ (most (l .before .before .before .before)) (s .before .before .loop-test .taken) _ (s .entry-status .ensures) _ (c .before .if1 .left) refl
 
 returns-2 : tie.Need-returns-2 Inv-loop μ-loop
 returns-2 c = let l = c .before in entries-done _ _ _ _ _ _ (l .loop .inv) (c .loop-test .left)
@@ -74,16 +59,5 @@ pub status-spec : {M : Type 1} → statement M
 status-spec =
     tie.close
     (tie.spec
-    Inv-loop
-    μ-loop
-    cast-count
-    loop-holds
-    mul-entry
-    array-copy-out-entry
-    entry-status-requires
-    returns
-    seen-after-requires
-    add-k
-    loop-less
-    loop-again
-    returns-2)
+    Inv-loop μ-loop (λ c. search needs) loop-holds (λ c. search needs) (λ c. search needs)
+    entry-status-requires returns (λ c. search needs) loop-less loop-again returns-2)

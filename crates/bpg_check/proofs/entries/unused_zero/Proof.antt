@@ -1,4 +1,4 @@
--- `entries::unused_zero` meets its contract. Assumes nothing.
+-- `entries::unused_zero` meets its contract.
 use mathlib.Core.Path.{_≡_, refl, sym, _∙_}
 use Prim.Native.Nat.{_-_}
 use native.Mathlib.Omega.{arith}
@@ -26,28 +26,13 @@ whole c = search entries-count
 rest : (c : tie.At-loop Inv-loop μ-loop) → zeroEntries (drop (c .loop .k) (c .before .before .before .args .«record» .entries)) ≡ unusedZero (c .before .before .before .args .«record»)
 rest c = c .loop .inv ∙ unused-begins _
 
-cast-k : tie.Need-cast-k Inv-loop μ-loop
-cast-k c = search needs
-
 loop-holds : tie.Need-loop-holds Inv-loop μ-loop
 loop-holds c = refl
-
-mul-entry : tie.Need-mul-entry Inv-loop μ-loop
-mul-entry c = search needs
-
-array-copy-out-entry : tie.Need-array-copy-out-entry Inv-loop μ-loop
-array-copy-out-entry c = search needs
-
-is-zero-requires : tie.Need-is-zero-requires Inv-loop μ-loop
-is-zero-requires c κs = search needs
 
 returns : tie.Need-returns Inv-loop μ-loop
 returns c =
     let l = c .before .before .before .before in
     unused-set _ _ (whole (l .before .before .before)) (rest l) _ (c .before .before .before .loop-test .taken) (sym (c .before .is-zero .ensures) ∙ not-true _ (c .if1 .taken))
-
-add-k : tie.Need-add-k Inv-loop μ-loop
-add-k c = search needs
 
 loop-less : tie.Need-loop-less Inv-loop μ-loop
 loop-less c = omega (arith, c .before .before .before .loop-test .taken)
@@ -64,15 +49,5 @@ pub unused-zero-spec : {M : Type 1} → statement M
 unused-zero-spec =
     tie.close
     (tie.spec
-    Inv-loop
-    μ-loop
-    cast-k
-    loop-holds
-    mul-entry
-    array-copy-out-entry
-    is-zero-requires
-    returns
-    add-k
-    loop-less
-    loop-again
-    returns-2)
+    Inv-loop μ-loop (λ c. search needs) loop-holds (λ c. search needs) (λ c. search needs)
+    (λ c κs. search needs) returns (λ c. search needs) loop-less loop-again returns-2)

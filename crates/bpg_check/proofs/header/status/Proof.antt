@@ -1,4 +1,4 @@
--- `header::status` meets its contract. Assumes nothing.
+-- `header::status` meets its contract.
 use mathlib.Core.Path.{_≡_, sym, _∙_}
 use mathlib.Core.Bool.{true}
 use borrow.Author.Tests.{not-true, not-false}
@@ -17,20 +17,11 @@ coded c = sym (c .before .fields-coded .ensures) ∙ not-false _ (c .if1 .left)
 clear : (c : tie.Else2) → noForbiddenBit (c .before .before .before .before .args .h) ≡ true
 clear c = sym (c .before .no-forbidden-bit .ensures) ∙ not-false _ (c .if2 .left)
 
-fields-coded-requires : tie.Need-fields-coded-requires
-fields-coded-requires c κs = search needs
-
 returns : tie.Need-returns
 returns c = not-coded _ _ (sym (c .before .fields-coded .ensures) ∙ not-true _ (c .if1 .taken))
 
-no-forbidden-bit-requires : tie.Need-no-forbidden-bit-requires
-no-forbidden-bit-requires c κs = search needs
-
 returns-2 : tie.Need-returns-2
 returns-2 c = forbidden-bit _ _ (coded (c .before .before)) (sym (c .before .no-forbidden-bit .ensures) ∙ not-true _ (c .if2 .taken))
-
-allowed-requires : tie.Need-allowed-requires
-allowed-requires c κs = search needs
 
 returns-3 : tie.Need-returns-3
 returns-3 c =
@@ -46,10 +37,5 @@ pub status-spec : {M : Type 1} → statement M
 status-spec =
     tie.close
     (tie.spec
-    fields-coded-requires
-    returns
-    no-forbidden-bit-requires
-    returns-2
-    allowed-requires
-    returns-3
+    (λ c κs. search needs) returns (λ c κs. search needs) returns-2 (λ c κs. search needs) returns-3
     returns-4)

@@ -1,4 +1,4 @@
--- `judge::record` meets its contract. Assumes nothing.
+-- `judge::record` meets its contract.
 use mathlib.Core.Path.{_≡_, sym, _∙_}
 use mathlib.Core.Bool.{true}
 use mathlib.Core.List.{List}
@@ -28,29 +28,17 @@ inside c = sym (c .before .all-in .ensures) ∙ not-false _ (c .if2 .left)
 unused : (c : tie.Else3) → unusedZero (rec (c .before .before .before .before)) ≡ true
 unused c = sym (c .before .unused-zero .ensures) ∙ not-false _ (c .if3 .left)
 
-cast-if1 : tie.Need-cast-if1
-cast-if1 c = search needs
-
 returns : tie.Need-returns
 returns c = too-many _ _ (c .if1 .taken)
 
-all-in-requires : tie.Need-all-in-requires
-all-in-requires c κs = search needs
-
 returns-2 : tie.Need-returns-2
 returns-2 c = let f = c .before .before in range-outside (rec f) (source f) (f .if1 .left) (sym (c .before .all-in .ensures) ∙ not-true _ (c .if2 .taken))
-
-unused-zero-requires : tie.Need-unused-zero-requires
-unused-zero-requires c κs = search needs
 
 returns-3 : tie.Need-returns-3
 returns-3 c =
     let i = c .before .before in
     let f = i .before .before in
     unused-set (rec f) (source f) (f .if1 .left) (inside i) (sym (c .before .unused-zero .ensures) ∙ not-true _ (c .if3 .taken))
-
-all-requires : tie.Need-all-requires
-all-requires c κs = search needs
 
 returns-4 : tie.Need-returns-4
 returns-4 c =
@@ -77,13 +65,5 @@ pub record-spec : {M : Type 1} → statement M
 record-spec =
     tie.close
     (tie.spec
-    cast-if1
-    returns
-    all-in-requires
-    returns-2
-    unused-zero-requires
-    returns-3
-    all-requires
-    returns-4
-    status-requires
-    returns-5)
+    (λ c. search needs) returns (λ c κs. search needs) returns-2 (λ c κs. search needs) returns-3
+    (λ c κs. search needs) returns-4 status-requires returns-5)

@@ -13,11 +13,12 @@ use Rattle.bpg_bytes.specs.Positions.{bytePos}
 use Rattle.bpg_format.specs.Limits.{maxEntries}
 use Rattle.bpg_format.specs.declared.record.Entry.{Entry}
 use Rattle.bpg_format.specs.Content.{Extension}
+use Rattle.bpg_format.specs.Rules.{noLoop}
 use Rattle.bpg_format.specs.Read.{readEntry, readEntries}
 use Rattle.bpg_entries.specs.declared.animation.Animation.{Animation}
 use Rattle.bpg_entries.specs.declared.entry.Step.{Step}
 use Rattle.bpg_entries.specs.declared.block.Block.{Block}
-use Rattle.bpg_entries.specs.Animations.{refusedAnimation}
+use Rattle.bpg_entries.specs.Animations.{loopAnswer}
 use Rattle.bpg_entries.specs.Blocks.{refusedBlock, blockAnswer, entriesIn}
 use Rattle.bpg_entries.proofs.EntryLaws.{Started, step-refused, step-started, plain-read, numbers-refused, numbers-read}
 use Rattle.bpg_entries.proofs.BlockLaws.{Reading, begins, ends, full, stops, goes-on, animates, count-most, too-long, in-region}
@@ -44,14 +45,14 @@ returns c = c .refused .ensures ∙ too-long _ _ (c .before .if1 .taken)
 zero-entry-requires : tie.Need-zero-entry-requires Inv-loop μ-loop
 zero-entry-requires c κs = search needs
 
-refused-requires-2 : tie.Need-refused-requires-2 Inv-loop μ-loop
-refused-requires-2 c κs = search needs
+none-requires : tie.Need-none-requires Inv-loop μ-loop
+none-requires c κs = search needs
 
 loop-holds : tie.Need-loop-holds Inv-loop μ-loop
 loop-holds c =
     let a = c .before .before .before .before .args in
-    subst (λ (y : Animation). Reading (a .region .now) (a .at .0) (made (replicate maxEntries (c .before .zero-entry .result)) 0 false y) (a .at .0)) (sym (c .refused2 .ensures))
-    (subst (λ (e : Entry). Reading (a .region .now) (a .at .0) (made (replicate maxEntries e) 0 false (refusedAnimation 0 0)) (a .at .0)) (sym (c .before .zero-entry .ensures))
+    subst (λ (y : Animation). Reading (a .region .now) (a .at .0) (made (replicate maxEntries (c .before .zero-entry .result)) 0 false y) (a .at .0)) (sym (c .none .ensures))
+    (subst (λ (e : Entry). Reading (a .region .now) (a .at .0) (made (replicate maxEntries e) 0 false (loopAnswer noLoop)) (a .at .0)) (sym (c .before .zero-entry .ensures))
     (begins (a .region .now) (a .at .0)))
 
 -- a turn of the loop
@@ -77,19 +78,19 @@ module _ (c : tie.At-loop Inv-loop μ-loop) where
 cast-if2 : tie.Need-cast-if2 Inv-loop μ-loop
 cast-if2 c = let l = c .before in omega (arith, count-most _ _ (block l) _ (l .loop .inv))
 
-refused-requires-3 : tie.Need-refused-requires-3 Inv-loop μ-loop
-refused-requires-3 c κs = search needs
+refused-requires-2 : tie.Need-refused-requires-2 Inv-loop μ-loop
+refused-requires-2 c κs = search needs
 
 returns-2 : tie.Need-returns-2 Inv-loop μ-loop
 returns-2 c =
     let l = c .before .before .before in
-    c .refused3 .ensures ∙ full _ _ (block l) _ (l .loop .inv) (c .before .before .loop-test .taken) (c .before .if2 .taken) ∙ ap (blockAnswer (at l)) (short l)
+    c .refused2 .ensures ∙ full _ _ (block l) _ (l .loop .inv) (c .before .before .loop-test .taken) (c .before .if2 .taken) ∙ ap (blockAnswer (at l)) (short l)
 
 read-requires : tie.Need-read-requires Inv-loop μ-loop
 read-requires c κs = search needs
 
-refused-requires-4 : tie.Need-refused-requires-4 Inv-loop μ-loop
-refused-requires-4 c κs = search needs
+refused-requires-3 : tie.Need-refused-requires-3 Inv-loop μ-loop
+refused-requires-3 c κs = search needs
 
 -- the step
 module _ (c : tie.After-read Inv-loop μ-loop) where
@@ -108,7 +109,7 @@ module _ (c : tie.After-read Inv-loop μ-loop) where
 returns-3 : tie.Need-returns-3 Inv-loop μ-loop
 returns-3 c =
     let r = c .before .before .before in
-    c .refused4 .ensures ∙ ends-with r _ _ (step-refused _ _ _ (step r) (r .read .ensures) (c .before .if3 .taken))
+    c .refused3 .ensures ∙ ends-with r _ _ (step-refused _ _ _ (step r) (r .read .ensures) (c .before .if3 .taken))
 
 cast-entries : tie.Need-cast-entries Inv-loop μ-loop
 cast-entries c = search needs
@@ -136,15 +137,15 @@ module _ (c : tie.After-struct-known2 Inv-loop μ-loop) where
 control-requires : tie.Need-control-requires Inv-loop μ-loop
 control-requires c κs = here (c .before) .inside
 
-refused-requires-5 : tie.Need-refused-requires-5 Inv-loop μ-loop
-refused-requires-5 c κs = search needs
+refused-requires-4 : tie.Need-refused-requires-4 Inv-loop μ-loop
+refused-requires-4 c κs = search needs
 
 returns-4 : tie.Need-returns-4 Inv-loop μ-loop
 returns-4 c =
     let f = c .before .before .before in
     let t = f .before in
     let d = t .before in
-    c .refused5 .ensures
+    c .refused4 .ensures
     ∙ ends-with (read d) _ _ (numbers-refused _ _ _ (step (read d)) (here d) (t .if4 .taken) (f .control .result) (f .control .ensures) (c .before .if5 .taken))
 
 loop-less : tie.Need-loop-less Inv-loop μ-loop
@@ -183,20 +184,20 @@ read-spec =
     refused-requires
     returns
     zero-entry-requires
-    refused-requires-2
+    none-requires
     loop-holds
     cast-if2
-    refused-requires-3
+    refused-requires-2
     returns-2
     read-requires
-    refused-requires-4
+    refused-requires-3
     returns-3
     cast-entries
     mul-entries
     array-set-from-entries
     add-entry-count
     control-requires
-    refused-requires-5
+    refused-requires-4
     returns-4
     loop-less
     loop-again

@@ -3,14 +3,8 @@ use borrow.Author.Needs.{needs}
 use Rattle.bpg_entries.proofs.block.refused.Statement.{statement}
 use Rattle.bpg_entries.proofs.block.refused.Tie as tie
 
-zero-entry-requires : tie.Need-zero-entry-requires
-zero-entry-requires c κs = search needs
-
-refused-requires : tie.Need-refused-requires
-refused-requires c κs = search needs
-
 returns : tie.Need-returns
 returns c = cc
 
 pub refused-spec : {M : Type 1} → statement M
-refused-spec = tie.close (tie.spec zero-entry-requires refused-requires returns)
+refused-spec = tie.close (tie.spec (λ c κs. search needs) (λ c κs. search needs) returns)

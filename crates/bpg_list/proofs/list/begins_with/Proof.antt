@@ -1,4 +1,4 @@
--- `list::begins_with` meets its contract: what was equal so far, and what is left, decide. Assumes nothing.
+-- `list::begins_with` meets its contract: what was equal so far, and what is left, decide.
 use mathlib.Core.Path.{_≡_, refl, sym, _∙_}
 use mathlib.Core.Bool.{_&&_}
 use Prim.Native.Nat.{_-_, _≤_}
@@ -23,24 +23,6 @@ returns c = sym (begins-short (c .before .args .part .now) (c .before .args .num
 loop-holds : tie.Need-loop-holds Inv-loop μ-loop
 loop-holds c = (omega arith, refl)
 
-mul-same : tie.Need-mul-same Inv-loop μ-loop
-mul-same c = search needs
-
-shared-slice-read-same : tie.Need-shared-slice-read-same Inv-loop μ-loop
-shared-slice-read-same c = omega arith
-
-mul-same-2 : tie.Need-mul-same-2 Inv-loop μ-loop
-mul-same-2 c = search needs
-
-shared-slice-read-same-2 : tie.Need-shared-slice-read-same-2 Inv-loop μ-loop
-shared-slice-read-same-2 c = omega arith
-
-add-k : tie.Need-add-k Inv-loop μ-loop
-add-k c = omega arith
-
-loop-less : tie.Need-loop-less Inv-loop μ-loop
-loop-less c = omega arith
-
 loop-again : tie.Need-loop-again Inv-loop μ-loop
 loop-again c =
     let l = c .before .before .before .loop in
@@ -57,15 +39,5 @@ pub begins-with-spec : {M : Type 1} → statement M
 begins-with-spec =
     tie.close
     (tie.spec
-    Inv-loop
-    μ-loop
-    returns
-    loop-holds
-    mul-same
-    shared-slice-read-same
-    mul-same-2
-    shared-slice-read-same-2
-    add-k
-    loop-less
-    loop-again
-    returns-2)
+    Inv-loop μ-loop returns loop-holds (λ c. search needs) (λ c. omega arith) (λ c. search needs)
+    (λ c. omega arith) (λ c. omega arith) (λ c. omega arith) loop-again returns-2)

@@ -1,4 +1,4 @@
--- `list::check` meets its contract. Assumes nothing.
+-- `list::check` meets its contract.
 use mathlib.Core.Path.{sym, _∙_}
 use borrow.Author.Tests.{le-leb, lt-leb, not-true, not-false}
 use borrow.Author.Needs.{needs}
@@ -8,9 +8,6 @@ use Rattle.bpg_list.proofs.list.check.Tie as tie
 
 returns : tie.Need-returns
 returns c = sym (select-false _ _ (lt-leb _ _ (c .if1 .taken)))
-
-is-of-requires : tie.Need-is-of-requires
-is-of-requires c κs = search needs
 
 returns-2 : tie.Need-returns-2
 returns-2 c =
@@ -23,4 +20,4 @@ returns-3 c =
     sym (select-true _ _ (le-leb _ _ (i .before .if1 .left)) ∙ select-true _ _ (sym (i .is-of .ensures) ∙ not-false _ (c .if2 .left)))
 
 pub check-spec : {M : Type 1} → statement M
-check-spec = tie.close (tie.spec returns is-of-requires returns-2 returns-3)
+check-spec = tie.close (tie.spec returns (λ c κs. search needs) returns-2 returns-3)

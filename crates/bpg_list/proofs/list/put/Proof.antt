@@ -1,4 +1,4 @@
--- `list::put` meets its contract: what comes back from the copy is the splice. Assumes nothing.
+-- `list::put` meets its contract: what comes back from the copy is the splice.
 use Prim.Native.Nat.{ℕ, _+_, _-_, _≤_}
 use mathlib.Core.Path.{_≡_}
 use mathlib.Core.List.{List, _++_}
@@ -19,32 +19,8 @@ wrote out part l at e h = rw (e, add-sub-cancel-left, drop-drop) (stored out at 
 returns : tie.Need-returns
 returns c = let a = c .before .before .before .args in refused (a .out .now) (a .at) (a .part .now) (omega arith) .0
 
-sub-if2 : tie.Need-sub-if2
-sub-if2 c = search needs
-
 returns-2 : tie.Need-returns-2
 returns-2 c = let a = c .before .before .before .before .args in refused (a .out .now) (a .at) (a .part .now) (omega arith) .0
-
-add-past : tie.Need-add-past
-add-past c = search needs
-
-mul-copy : tie.Need-mul-copy
-mul-copy c = search needs
-
-sub-copy : tie.Need-sub-copy
-sub-copy c = search needs
-
-part-copy-start : tie.Need-part-copy-start
-part-copy-start c = search needs
-
-part-copy-end : tie.Need-part-copy-end
-part-copy-end c = search needs
-
-copy-requires : tie.Need-copy-requires
-copy-requires c κs = search needs
-
-same-length : tie.Need-same-length
-same-length c = search needs
 
 returns-3 : tie.Need-returns-3
 returns-3 c = let a = c .before .before .before .before .before .before .before .before .args in wrote (a .out .now) _ (a .part .now) (a .at) (c .before .before .copy .ensures) (omega arith)
@@ -53,14 +29,5 @@ pub put-spec : {M : Type 1} → statement M
 put-spec =
     tie.close
     (tie.spec
-    returns
-    sub-if2
-    returns-2
-    add-past
-    mul-copy
-    sub-copy
-    part-copy-start
-    part-copy-end
-    copy-requires
-    same-length
-    returns-3)
+    returns (λ c. search needs) returns-2 (λ c. search needs) (λ c. search needs) (λ c. search needs)
+    (λ c. search needs) (λ c. search needs) (λ c κs. search needs) (λ c. search needs) returns-3)

@@ -1,21 +1,9 @@
--- `list::put_header` meets its contract. Assumes nothing.
+-- `list::put_header` meets its contract.
 use mathlib.Core.Path.{ap, _∙_}
 use Rattle.bpg_codec.specs.Buffer.{written}
 use borrow.Author.Needs.{needs}
 use Rattle.bpg_list.proofs.list.put_header.Statement.{statement}
 use Rattle.bpg_list.proofs.list.put_header.Tie as tie
-
-header-numbers-requires : tie.Need-header-numbers-requires
-header-numbers-requires c κs = search needs
-
-slice-aggregate-put : tie.Need-slice-aggregate-put
-slice-aggregate-put c = search needs
-
-put-requires : tie.Need-put-requires
-put-requires c κs = search needs
-
-same-length : tie.Need-same-length
-same-length c = search needs
 
 returns : tie.Need-returns
 returns c =
@@ -27,4 +15,5 @@ returns c =
 pub put-header-spec : {M : Type 1} → statement M
 put-header-spec =
     tie.close
-    (tie.spec header-numbers-requires slice-aggregate-put put-requires same-length returns)
+    (tie.spec
+    (λ c κs. search needs) (λ c. search needs) (λ c κs. search needs) (λ c. search needs) returns)

@@ -1,4 +1,4 @@
--- `record::entries` meets its contract: the entries so far are the list's. Assumes nothing.
+-- `record::entries` meets its contract: the entries so far are the list's.
 use mathlib.Core.Path.{_≡_, refl, sym, ap, _∙_}
 use mathlib.Core.List.{List, []}
 use Prim.Native.Nat.{ℕ, _+_, _-_, _*_, _≤_, _<_}
@@ -32,32 +32,8 @@ step numbers all k e h p q = rw (add-one, take-suc-set, p, q) (sym (entries-more
 all-entries : (numbers : List ℕ) (all : List Entry) (k : ℕ) → k ≡ maxEntries → length all ≡ maxEntries → take k all ≡ entriesAt numbers 12 k → all ≡ entriesAt numbers 12 maxEntries
 all-entries numbers all k e n p = sym (take-all k all (omega arith)) ∙ p ∙ ap (entriesAt numbers 12) e
 
-zero-entry-requires : tie.Need-zero-entry-requires Inv-loop μ-loop
-zero-entry-requires c κs = search needs
-
 loop-holds : tie.Need-loop-holds Inv-loop μ-loop
 loop-holds c = (omega arith, refl, none (c .before .before .args .numbers .now))
-
-mul-entry : tie.Need-mul-entry Inv-loop μ-loop
-mul-entry c = omega arith
-
-add-entry : tie.Need-add-entry Inv-loop μ-loop
-add-entry c = omega arith
-
-entry-requires : tie.Need-entry-requires Inv-loop μ-loop
-entry-requires c κs = omega arith
-
-mul-all : tie.Need-mul-all Inv-loop μ-loop
-mul-all c = omega arith
-
-array-set-from-all : tie.Need-array-set-from-all Inv-loop μ-loop
-array-set-from-all c = omega arith
-
-add-k : tie.Need-add-k Inv-loop μ-loop
-add-k c = omega arith
-
-loop-less : tie.Need-loop-less Inv-loop μ-loop
-loop-less c = omega arith
 
 loop-again : tie.Need-loop-again Inv-loop μ-loop
 loop-again c =
@@ -74,16 +50,6 @@ pub entries-spec : {M : Type 1} → statement M
 entries-spec =
     tie.close
     (tie.spec
-    Inv-loop
-    μ-loop
-    zero-entry-requires
-    loop-holds
-    mul-entry
-    add-entry
-    entry-requires
-    mul-all
-    array-set-from-all
-    add-k
-    loop-less
-    loop-again
-    returns)
+    Inv-loop μ-loop (λ c κs. search needs) loop-holds (λ c. omega arith) (λ c. omega arith)
+    (λ c κs. omega arith) (λ c. omega arith) (λ c. omega arith) (λ c. omega arith) (λ c. omega arith)
+    loop-again returns)

@@ -1,107 +1,8 @@
--- `record::header` meets its contract. Assumes nothing.
+-- `record::header` meets its contract.
 use Rattle.bpg_list.specs.Numbers.{headerAt}
 use borrow.Author.Needs.{needs}
 use Rattle.bpg_list.proofs.record.header.Statement.{statement}
 use Rattle.bpg_list.proofs.record.header.Tie as tie
-
-add-range-flags : tie.Need-add-range-flags
-add-range-flags c = search needs
-
-range-flags-requires : tie.Need-range-flags-requires
-range-flags-requires c κs = search needs
-
-u32-at-requires : tie.Need-u32-at-requires
-u32-at-requires c κs = search needs
-
-add-u32-at : tie.Need-add-u32-at
-add-u32-at c = search needs
-
-u32-at-requires-2 : tie.Need-u32-at-requires-2
-u32-at-requires-2 c κs = search needs
-
-add-u32-at-2 : tie.Need-add-u32-at-2
-add-u32-at-2 c = search needs
-
-u32-at-requires-3 : tie.Need-u32-at-requires-3
-u32-at-requires-3 c κs = search needs
-
-add-u32-at-3 : tie.Need-add-u32-at-3
-add-u32-at-3 c = search needs
-
-u32-at-requires-4 : tie.Need-u32-at-requires-4
-u32-at-requires-4 c κs = search needs
-
-add-u32-at-4 : tie.Need-add-u32-at-4
-add-u32-at-4 c = search needs
-
-u32-at-requires-5 : tie.Need-u32-at-requires-5
-u32-at-requires-5 c κs = search needs
-
-add-flag : tie.Need-add-flag
-add-flag c = search needs
-
-flag-requires : tie.Need-flag-requires
-flag-requires c κs = search needs
-
-add-flag-2 : tie.Need-add-flag-2
-add-flag-2 c = search needs
-
-flag-requires-2 : tie.Need-flag-requires-2
-flag-requires-2 c κs = search needs
-
-add-u8-at : tie.Need-add-u8-at
-add-u8-at c = search needs
-
-u8-at-requires : tie.Need-u8-at-requires
-u8-at-requires c κs = search needs
-
-add-u8-at-2 : tie.Need-add-u8-at-2
-add-u8-at-2 c = search needs
-
-u8-at-requires-2 : tie.Need-u8-at-requires-2
-u8-at-requires-2 c κs = search needs
-
-add-u32-at-5 : tie.Need-add-u32-at-5
-add-u32-at-5 c = search needs
-
-u32-at-requires-6 : tie.Need-u32-at-requires-6
-u32-at-requires-6 c κs = search needs
-
-add-u32-at-6 : tie.Need-add-u32-at-6
-add-u32-at-6 c = search needs
-
-u32-at-requires-7 : tie.Need-u32-at-requires-7
-u32-at-requires-7 c κs = search needs
-
-add-flag-3 : tie.Need-add-flag-3
-add-flag-3 c = search needs
-
-flag-requires-3 : tie.Need-flag-requires-3
-flag-requires-3 c κs = search needs
-
-add-flag-4 : tie.Need-add-flag-4
-add-flag-4 c = search needs
-
-flag-requires-4 : tie.Need-flag-requires-4
-flag-requires-4 c κs = search needs
-
-add-flag-5 : tie.Need-add-flag-5
-add-flag-5 c = search needs
-
-flag-requires-5 : tie.Need-flag-requires-5
-flag-requires-5 c κs = search needs
-
-add-flag-6 : tie.Need-add-flag-6
-add-flag-6 c = search needs
-
-flag-requires-6 : tie.Need-flag-requires-6
-flag-requires-6 c κs = search needs
-
-add-u8-at-3 : tie.Need-add-u8-at-3
-add-u8-at-3 c = search needs
-
-u8-at-requires-3 : tie.Need-u8-at-requires-3
-u8-at-requires-3 c κs = search needs
 
 returns : tie.Need-returns
 unfolding headerAt
@@ -148,37 +49,12 @@ pub header-spec : {M : Type 1} → statement M
 header-spec =
     tie.close
     (tie.spec
-    add-range-flags
-    range-flags-requires
-    u32-at-requires
-    add-u32-at
-    u32-at-requires-2
-    add-u32-at-2
-    u32-at-requires-3
-    add-u32-at-3
-    u32-at-requires-4
-    add-u32-at-4
-    u32-at-requires-5
-    add-flag
-    flag-requires
-    add-flag-2
-    flag-requires-2
-    add-u8-at
-    u8-at-requires
-    add-u8-at-2
-    u8-at-requires-2
-    add-u32-at-5
-    u32-at-requires-6
-    add-u32-at-6
-    u32-at-requires-7
-    add-flag-3
-    flag-requires-3
-    add-flag-4
-    flag-requires-4
-    add-flag-5
-    flag-requires-5
-    add-flag-6
-    flag-requires-6
-    add-u8-at-3
-    u8-at-requires-3
-    returns)
+    (λ c. search needs) (λ c κs. search needs) (λ c κs. search needs) (λ c. search needs)
+    (λ c κs. search needs) (λ c. search needs) (λ c κs. search needs) (λ c. search needs)
+    (λ c κs. search needs) (λ c. search needs) (λ c κs. search needs) (λ c. search needs)
+    (λ c κs. search needs) (λ c. search needs) (λ c κs. search needs) (λ c. search needs)
+    (λ c κs. search needs) (λ c. search needs) (λ c κs. search needs) (λ c. search needs)
+    (λ c κs. search needs) (λ c. search needs) (λ c κs. search needs) (λ c. search needs)
+    (λ c κs. search needs) (λ c. search needs) (λ c κs. search needs) (λ c. search needs)
+    (λ c κs. search needs) (λ c. search needs) (λ c κs. search needs) (λ c. search needs)
+    (λ c κs. search needs) returns)

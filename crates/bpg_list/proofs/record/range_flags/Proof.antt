@@ -1,60 +1,9 @@
--- `record::range_flags` meets its contract. Assumes nothing.
+-- `record::range_flags` meets its contract.
 use mathlib.Core.List.{[], _∷_}
 use Rattle.bpg_list.specs.Numbers.{rangeFlagsAt}
 use borrow.Author.Needs.{needs}
 use Rattle.bpg_list.proofs.record.range_flags.Statement.{statement}
 use Rattle.bpg_list.proofs.record.range_flags.Tie as tie
-
-flag-requires : tie.Need-flag-requires
-flag-requires c κs = search needs
-
-add-flag : tie.Need-add-flag
-add-flag c = search needs
-
-flag-requires-2 : tie.Need-flag-requires-2
-flag-requires-2 c κs = search needs
-
-add-flag-2 : tie.Need-add-flag-2
-add-flag-2 c = search needs
-
-flag-requires-3 : tie.Need-flag-requires-3
-flag-requires-3 c κs = search needs
-
-add-flag-3 : tie.Need-add-flag-3
-add-flag-3 c = search needs
-
-flag-requires-4 : tie.Need-flag-requires-4
-flag-requires-4 c κs = search needs
-
-add-flag-4 : tie.Need-add-flag-4
-add-flag-4 c = search needs
-
-flag-requires-5 : tie.Need-flag-requires-5
-flag-requires-5 c κs = search needs
-
-add-flag-5 : tie.Need-add-flag-5
-add-flag-5 c = search needs
-
-flag-requires-6 : tie.Need-flag-requires-6
-flag-requires-6 c κs = search needs
-
-add-flag-6 : tie.Need-add-flag-6
-add-flag-6 c = search needs
-
-flag-requires-7 : tie.Need-flag-requires-7
-flag-requires-7 c κs = search needs
-
-add-flag-7 : tie.Need-add-flag-7
-add-flag-7 c = search needs
-
-flag-requires-8 : tie.Need-flag-requires-8
-flag-requires-8 c κs = search needs
-
-add-flag-8 : tie.Need-add-flag-8
-add-flag-8 c = search needs
-
-flag-requires-9 : tie.Need-flag-requires-9
-flag-requires-9 c κs = search needs
 
 returns : tie.Need-returns
 unfolding rangeFlagsAt
@@ -74,21 +23,8 @@ pub range-flags-spec : {M : Type 1} → statement M
 range-flags-spec =
     tie.close
     (tie.spec
-    flag-requires
-    add-flag
-    flag-requires-2
-    add-flag-2
-    flag-requires-3
-    add-flag-3
-    flag-requires-4
-    add-flag-4
-    flag-requires-5
-    add-flag-5
-    flag-requires-6
-    add-flag-6
-    flag-requires-7
-    add-flag-7
-    flag-requires-8
-    add-flag-8
-    flag-requires-9
-    returns)
+    (λ c κs. search needs) (λ c. search needs) (λ c κs. search needs) (λ c. search needs)
+    (λ c κs. search needs) (λ c. search needs) (λ c κs. search needs) (λ c. search needs)
+    (λ c κs. search needs) (λ c. search needs) (λ c κs. search needs) (λ c. search needs)
+    (λ c κs. search needs) (λ c. search needs) (λ c κs. search needs) (λ c. search needs)
+    (λ c κs. search needs) returns)
