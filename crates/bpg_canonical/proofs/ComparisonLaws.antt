@@ -38,9 +38,6 @@ count-fits f out = by (canonicalOutcome (length out) f)
     by (ok l) = simp length-append (omega arith)
     by (error s o) = omega arith
 
-bytes-count : (w : Written) (after : List ℕ) → w .count ≤ length after → length (bytes w after) ≡ w .count
-bytes-count w after h = simp length-take (omega arith)
-
 true-test : (b : Bool) → b ≡ true → T b
 true-test b e = subst T (sym e) tt
 
@@ -50,15 +47,19 @@ test-true true t = refl
 pub compares : (f g out1 out2 : List ℕ) → Compares f g out1 out2 (comparisonOf f g out1 out2) (canonicalBuffer f out1) (canonicalBuffer g out2)
 compares f g out1 out2 a b h k =
     let x = one-form-per-picture f g out1 out2 a b h k in
-    let l = bytes (canonicalFile f out1) (canonicalBuffer f out1) in
-    let m = bytes (canonicalFile g out2) (canonicalBuffer g out2) in
-    let both = sym (both-written (canonicalFile f out1) (canonicalFile g out2) (canonicalBuffer f out1) (canonicalBuffer g out2) _ _ (x .first) (x .second) refl refl) in
+    let w1 = canonicalFile f out1 in
+    let w2 = canonicalFile g out2 in
+    let l = bytes w1 (canonicalBuffer f out1) in
+    let m = bytes w2 (canonicalBuffer g out2) in
+    let z1 = ap (λ (w : Written). w .status) (x .first) in
+    let z2 = ap (λ (w : Written). w .status) (x .second) in
+    let both = sym (both-written w1 w2 (canonicalBuffer f out1) (canonicalBuffer g out2) _ _ z1 z2 refl refl) in
     record {
       of-first = x;
       of-second = one-form-per-picture g f out2 out1 b a k h;
       same-picture = (
         λ t. let e = same-equal l m (true-test (same l m) (sym both ∙ t)) in
-            x .equal .0 (sym (bytes-count (canonicalFile f out1) _ (count-fits f out1)) ∙ ap length e ∙ bytes-count (canonicalFile g out2) _ (count-fits g out2), e),
+        x .equal .0 (ap (λ (w : Written). w .count) (x .first) ∙ ap length e ∙ sym (ap (λ (w : Written). w .count) (x .second)), e),
         λ p. both ∙ test-true (same l m) (subst (λ (y : List ℕ). T (same l y)) (x .equal .1 p .1) (same-refl l)),
       );
     }

@@ -25,14 +25,14 @@ comparisonOf f g out1 out2 =
       same = sameForms (canonicalFile f out1) (canonicalBuffer f out1) (canonicalFile g out2) (canonicalBuffer g out2);
     }
 
--- requirement 3 for the files f and g, over what a call answers and its buffers at exit
-pub record Compared (f g : List ℕ) (r : Comparison) (after1 after2 : List ℕ) : Type 0 where
-  pub of-first : Canonicalized f g (r .first) (r .second) after1 after2
-  pub of-second : Canonicalized g f (r .second) (r .first) after2 after1
+-- requirement 3 for the files f and g, over what a call answers and its buffers `out1` and `out2`, which it leaves as `after1` and `after2`
+pub record Compared (f g out1 out2 : List ℕ) (r : Comparison) (after1 after2 : List ℕ) : Type 0 where
+  pub of-first : Canonicalized f g out1 out2 (r .first) (r .second) after1 after2
+  pub of-second : Canonicalized g f out2 out1 (r .second) (r .first) after2 after1
   pub same-picture : (r .same ≡ true) ↔ SamePicture f g
 
 -- its premise: the files are accepted, and each buffer holds the canonical form that is written into it
 abbrev pub Compares : (f g out1 out2 : List ℕ) → Comparison → (after1 after2 : List ℕ) → Type 0
 Compares f g out1 out2 r after1 after2 =
     (a : Accepted f) (b : Accepted g) → length (canonicalBytes (a .0)) ≤ length out1 → length (canonicalBytes (b .0)) ≤ length out2
-    → Compared f g r after1 after2
+    → Compared f g out1 out2 r after1 after2

@@ -1,7 +1,7 @@
 -- The requirements hold. Assumes nothing.
 use mathlib.Core.Path.{_≡_, refl, sym, ap, _∙_, subst}
 use mathlib.Core.Bool.{Bool, true, false}
-use mathlib.Core.List.{List, []}
+use mathlib.Core.List.{List, [], _++_}
 use mathlib.Core.Logic.{_↔_, _≢_}
 use Prim.Native.Nat.{ℕ, _+_, _≤_, _<_}
 use native.Mathlib.Omega.{arith}
@@ -17,6 +17,7 @@ use Rattle.bpg_format.specs.declared.record.Range.{Range}
 use Rattle.bpg_format.specs.declared.record.Entry.{Entry}
 use Rattle.bpg_format.specs.declared.record.Record.{Record}
 use Rattle.bpg_format.specs.declared.answer.Reading.{Reading as Answer}
+use Rattle.bpg_format.specs.declared.answer.Written.{Written}
 use Rattle.bpg_format.specs.Zero.{zeroEntry, refusedWritten}
 use Rattle.bpg_format.specs.Content.{Extension, Content}
 use Rattle.bpg_format.specs.Syntax.{fileOf}
@@ -144,48 +145,49 @@ reading =
     }
 
 -- what a success says of its answer and of the buffer
-success : (o : Outcome (List ℕ)) (l out : List ℕ) → o ≡ ok l
-    → (writtenAnswer o .status ≡ 0) × (writtenAnswer o .count ≡ length l)
-    × (take (writtenAnswer o .count) (writtenBuffer o out) ≡ l) × (drop (writtenAnswer o .count) (writtenBuffer o out) ≡ drop (writtenAnswer o .count) out)
-success o l out e = rw e (refl, refl, take-append-seam l (drop (length l) out), drop-append-seam l (drop (length l) out))
+abbrev Done : Written → (after out l : List ℕ) → Type 0
+Done w after out l = (w ≡ record { status = 0; offset = 0; count = length l }) × (after ≡ l ++ drop (length l) out)
+
+success : (o : Outcome (List ℕ)) (l out : List ℕ) → o ≡ ok l → Done (writtenAnswer o) (writtenBuffer o out) out l
+success o l out e = rw e (refl, refl)
+
+-- the bytes that were written
+taken : (w : Written) (after out l : List ℕ) → Done w after out l → bytes w after ≡ l
+taken w after out l d = rw (d .0, d .1) (take-append-seam l (drop (length l) out))
 
 written-outcome : (o : Outcome (List ℕ)) → Refuses (λ s p. WritingStatus s × (p ≡ 0)) o → writtenAnswer o .status ≡ 0 → (l : List ℕ) × (o ≡ ok l)
 written-outcome (ok l) h e = (l, refl)
 written-outcome (error s o) h e = absurd (subst WritingStatus e (h s o refl .0))
 
+written-done : (r : Record) (source out : List ℕ) → Writable (length out) r source
+    → Done (writeFile r source out) (writeBuffer r source out) out (fileOf (contentOf r source))
+unfolding writeFile writeBuffer
+written-done r source out w = success (writeOutcome (length out) r source) (fileOf (contentOf r source)) out (written-full (length out) r source w)
+
 exactly : (r : Record) (source out : List ℕ) → Typed r → All Byte source → (writeFile r source out .status ≡ 0) ↔ Writable (length out) r source
 unfolding writeFile
 exactly r source out t b = (
   λ e. let w = written-outcome (writeOutcome (length out) r source) (write-refuses (length out) r source) e in written-sound r source t b (length out) (w .0) (w .1) .0,
-  λ w. success (writeOutcome (length out) r source) (fileOf (contentOf r source)) out (written-full (length out) r source w) .0,
+  λ w. ap (λ (x : Written). x .status) (written-done r source out w .0),
 )
-
-written-bytes : (r : Record) (source out : List ℕ) → Writable (length out) r source
-    → (writeFile r source out .count ≡ length (fileOf (contentOf r source)))
-    × (take (writeFile r source out .count) (writeBuffer r source out) ≡ fileOf (contentOf r source))
-    × (drop (writeFile r source out .count) (writeBuffer r source out) ≡ drop (writeFile r source out .count) out)
-unfolding writeFile writeBuffer
-written-bytes r source out w =
-    let s = success (writeOutcome (length out) r source) (fileOf (contentOf r source)) out (written-full (length out) r source w) in
-    (s .1, s .2, s .3)
 
 read-back : (r : Record) (source out : List ℕ) → Writable (length out) r source
     → let file = take (writeFile r source out .count) (writeBuffer r source out) in
     (readFile file ≡ answerOf (ok (contentOf r source))) × (contentOf (readFile file .«record») file ≡ contentOf r source)
-read-back r source out w = rw (written-bytes r source out w .1) (answer (contentOf r source) (w .rules), the-content (contentOf r source) (w .rules))
+read-back r source out w =
+    rw (taken (writeFile r source out) (writeBuffer r source out) out (fileOf (contentOf r source)) (written-done r source out w))
+    (answer (contentOf r source) (w .rules), the-content (contentOf r source) (w .rules))
 
 same-file : (f out : List ℕ) → Accepted f → length f ≤ length out
-    → let written = writeFile (readFile f .«record») f out in
-    (written .status ≡ 0) × (written .count ≡ length f) × (take (written .count) (writeBuffer (readFile f .«record») f out) ≡ f)
+    → Done (writeFile (readFile f .«record») f out) (writeBuffer (readFile f .«record») f out) out f
 unfolding writeFile writeBuffer
 same-file f out a h =
     let c = a .0 in
     let n : length (fileOf c) ≤ length out = subst (λ (g : List ℕ). length g ≤ length out) (a .2) h in
-    let s = success (writeOutcome (length out) (recordOf c) (fileOf c)) (fileOf c) out (record-written c (a .1) (length out) n) in
-    rw (a .2, the-record c (a .1)) (s .0, s .1, s .2)
+    rw (a .2, the-record c (a .1)) (success (writeOutcome (length out) (recordOf c) (fileOf c)) (fileOf c) out (record-written c (a .1) (length out) n))
 
 pub writing : Writing
-writing = record { exactly = exactly; bytes = written-bytes; read-back = read-back; same-file = same-file }
+writing = record { exactly = exactly; bytes = written-done; read-back = read-back; same-file = same-file }
 
 -- the parts of a record of which these two facts are known
 module _ (f : List ℕ) (order : InOrder (parts f) (length f)) (used : length (usedEntries (readFile f .«record»)) ≡ readFile f .«record» .«entry_count») where
@@ -230,18 +232,13 @@ ranges f a = subst Ranges (sym (a .2)) (ranges-of (a .0) (a .1))
 
 -- ---- 3
 
-record Done (f out : List ℕ) (c : Content) : Type 0 where
-  status : canonicalFile f out .status ≡ 0
-  count-is : canonicalFile f out .count ≡ length (canonicalBytes c)
-  bytes-are : bytes (canonicalFile f out) (canonicalBuffer f out) ≡ canonicalBytes c
-
 -- canonicalizing an accepted file into a buffer that holds the canonical form
-done : (f out : List ℕ) (a : Accepted f) → length (canonicalBytes (a .0)) ≤ length out → Done f out (a .0)
+done : (f out : List ℕ) (a : Accepted f) → length (canonicalBytes (a .0)) ≤ length out
+    → Done (canonicalFile f out) (canonicalBuffer f out) out (canonicalBytes (a .0))
 unfolding canonicalOutcome canonicalFile canonicalBuffer
 done f out a h =
     let e : canonicalOutcome (length out) f ≡ ok (canonicalBytes (a .0)) = rw (a .2, reads (a .0) (a .1), le-leb _ _ h) in
-    let s = success (canonicalOutcome (length out) f) (canonicalBytes (a .0)) out e in
-    record { status = s .0; count-is = s .1; bytes-are = s .2 }
+    success (canonicalOutcome (length out) f) (canonicalBytes (a .0)) out e
 
 -- the picture of a file is that of its content
 picture-of : (f : List ℕ) (a : Accepted f) (p : Picture) → Shows f p → pictureOf (a .0) ≡ p
@@ -257,22 +254,25 @@ same-pictures f g a b = (
   ),
 )
 
-module _ (f out : List ℕ) (a : Accepted f) (x : Done f out (a .0)) where
+module _ (f out : List ℕ) (a : Accepted f) (x : Done (canonicalFile f out) (canonicalBuffer f out) out (canonicalBytes (a .0))) where
   abbrev written : List ℕ
   written = bytes (canonicalFile f out) (canonicalBuffer f out)
 
-  equal : (g out2 : List ℕ) (b : Accepted g) → Done g out2 (b .0)
-      → ((canonicalFile f out .count ≡ canonicalFile g out2 .count) × (written ≡ bytes (canonicalFile g out2) (canonicalBuffer g out2))) ↔ SamePicture f g
-  equal g out2 b y =
-      let eq = equal-exactly (a .0) (b .0) (a .1) (b .1) in
-      let pictures = same-pictures f g a b in (
-        λ e. pictures .1 (eq .0 (sym (x .bytes-are) ∙ e .1 ∙ y .bytes-are)),
-        λ p. let same = eq .1 (pictures .0 p) in (x .count-is ∙ ap length same ∙ sym (y .count-is), x .bytes-are ∙ same ∙ sym (y .bytes-are)),
-      )
+  bytes-are : written ≡ canonicalBytes (a .0)
+  bytes-are = taken (canonicalFile f out) (canonicalBuffer f out) out (canonicalBytes (a .0)) x
+
+  count-is : canonicalFile f out .count ≡ length (canonicalBytes (a .0))
+  count-is = ap (λ (w : Written). w .count) (x .0)
+
+  succeeds : canonicalFile f out ≡ record { status = 0; offset = 0; count = length written }
+  succeeds = x .0 ∙ ap (λ (l : List ℕ). record { status = 0; offset = 0; count = length l }) (sym bytes-are)
+
+  rest-kept : drop (canonicalFile f out .count) (canonicalBuffer f out) ≡ drop (canonicalFile f out .count) out
+  rest-kept = rw (x .0, x .1) (drop-append-seam (canonicalBytes (a .0)) (drop (length (canonicalBytes (a .0))) out))
 
   is-form : written ≡ fileOf (canonicalContent (a .0))
   unfolding canonicalBytes
-  is-form = x .bytes-are
+  is-form = bytes-are
 
   abbrev form : Accepted written
   form = (canonicalContent (a .0), canonical-rules (a .0) (a .1), is-form)
@@ -281,22 +281,36 @@ module _ (f out : List ℕ) (a : Accepted f) (x : Done f out (a .0)) where
       → let w3 = canonicalFile written out3 in
       (w3 .status ≡ 0) × (w3 .count ≡ canonicalFile f out .count) × (bytes w3 (canonicalBuffer written out3) ≡ written)
   once-more out3 h =
-      let e : canonicalBytes (canonicalContent (a .0)) ≡ written = again (a .0) ∙ sym (x .bytes-are) in
-      let z = done written out3 form (rw e h) in
-      (z .status, z .count-is ∙ ap length (again (a .0)) ∙ sym (x .count-is), z .bytes-are ∙ e)
+      let e : canonicalBytes (canonicalContent (a .0)) ≡ written = again (a .0) ∙ sym bytes-are in
+      let z = done written out3 form (rw e h) in (
+        ap (λ (w : Written). w .status) (z .0),
+        ap (λ (w : Written). w .count) (z .0) ∙ ap length (again (a .0)) ∙ sym count-is,
+        taken (canonicalFile written out3) (canonicalBuffer written out3) out3 _ z ∙ e,
+      )
 
   least : (h : List ℕ) → Accepted h → SamePicture h f → canonicalFile f out .count ≤ length h
-  least h b p = rw (x .count-is, b .2) (minimal (a .0) (b .0) (b .1) (same-pictures h f b a .0 p))
+  least h b p = rw (count-is, b .2) (minimal (a .0) (b .0) (b .1) (same-pictures h f b a .0 p))
+
+  module _ (g out2 : List ℕ) (b : Accepted g) (y : Done (canonicalFile g out2) (canonicalBuffer g out2) out2 (canonicalBytes (b .0))) where
+    equal : ((canonicalFile f out .count ≡ canonicalFile g out2 .count) × (written ≡ bytes (canonicalFile g out2) (canonicalBuffer g out2))) ↔ SamePicture f g
+    equal =
+        let eq = equal-exactly (a .0) (b .0) (a .1) (b .1) in
+        let pictures = same-pictures f g a b in
+        let other = taken (canonicalFile g out2) (canonicalBuffer g out2) out2 (canonicalBytes (b .0)) y in (
+          λ e. pictures .1 (eq .0 (sym bytes-are ∙ e .1 ∙ other)),
+          λ p. let same = eq .1 (pictures .0 p) in (count-is ∙ ap length same ∙ sym (ap (λ (w : Written). w .count) (y .0)), bytes-are ∙ same ∙ sym other),
+        )
 
 pub one-form-per-picture : OneFormPerPicture
 one-form-per-picture f g out1 out2 a b h k =
     let x = done f out1 a h in
     let y = done g out2 b k in
     record {
-      first = x .status;
-      second = y .status;
+      first = succeeds f out1 a x;
+      second = succeeds g out2 b y;
+      rest = (rest-kept f out1 a x, rest-kept g out2 b y);
       equal = equal f out1 a x g out2 b y;
-      form = λ e r i. x .bytes-are ∙ ap canonicalBytes (content-unique (a .0) e (a .1) r (sym (a .2) ∙ i));
+      form = λ e r i. bytes-are f out1 a x ∙ ap canonicalBytes (content-unique (a .0) e (a .1) r (sym (a .2) ∙ i));
       is-accepted = form f out1 a x;
       same = same-pictures (written f out1 a x) f (form f out1 a x) a .1 (same-picture (a .0));
       again = once-more f out1 a x;

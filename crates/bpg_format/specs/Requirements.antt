@@ -1,7 +1,7 @@
 -- The three requirements (the order's demands), in their own words and as types over the definitions that the calls' contracts cite.
 -- `proofs/Requirements` proves them.
 use mathlib.Core.Path.{_≡_}
-use mathlib.Core.List.{List, []}
+use mathlib.Core.List.{List, [], _++_}
 use mathlib.Core.Logic.{_↔_, _≢_}
 use Prim.Native.Nat.{ℕ, _+_, _≤_, _<_}
 use lib.ListN.{length, take, drop, getD}
@@ -23,7 +23,8 @@ use Rattle.bpg_format.specs.Pictures.{canonicalBytes, SamePicture, canon
 -- 1. "Every call takes every input. A bad file or record is refused with the number and place in document 01, any record returned is then
 -- all zero, and lent room keeps its old contents; an index past the last entry gives an empty part."
 --
--- That every call takes every input is that no public function has a precondition; number and place are the definitions' own.
+-- That every call takes every input is that no public function has a precondition. Here stands that a refusal's number is one of document 01's;
+-- which one, and at which place, is what `readContent` and `writeOutcome` say, step by step.
 pub record Refusals : Type 0 where
   -- "any record returned is then all zero"
   pub reading : (f : List ℕ) → readFile f .status ≢ 0 → readFile f ≡ refusedReading (readFile f .status) (readFile f .offset)
@@ -68,17 +69,16 @@ pub record Writing : Type 0 where
   pub exactly : (r : Record) (source out : List ℕ) → Typed r → All Byte source → (writeFile r source out .status ≡ 0) ↔ Writable (length out) r source
   -- the file from the start of the buffer, and the rest of the buffer as it was
   pub bytes : (r : Record) (source out : List ℕ) → Writable (length out) r source
-      → (writeFile r source out .count ≡ length (fileOf (contentOf r source)))
-      × (take (writeFile r source out .count) (writeBuffer r source out) ≡ fileOf (contentOf r source))
-      × (drop (writeFile r source out .count) (writeBuffer r source out) ≡ drop (writeFile r source out .count) out)
+      → let file = fileOf (contentOf r source) in
+      (writeFile r source out ≡ record { status = 0; offset = 0; count = length file }) × (writeBuffer r source out ≡ file ++ drop (length file) out)
   -- what stands in the buffer then is read with status 0, as a record of the same content
   pub read-back : (r : Record) (source out : List ℕ) → Writable (length out) r source
       → let file = take (writeFile r source out .count) (writeBuffer r source out) in
       (readFile file ≡ answerOf (ok (contentOf r source))) × (contentOf (readFile file .«record») file ≡ contentOf r source)
   -- the record of an accepted file is written over that file, as that file
   pub same-file : (f out : List ℕ) → Accepted f → length f ≤ length out
-      → let written = writeFile (readFile f .«record») f out in
-      (written .status ≡ 0) × (written .count ≡ length f) × (take (written .count) (writeBuffer (readFile f .«record») f out) ≡ f)
+      → (writeFile (readFile f .«record») f out ≡ record { status = 0; offset = 0; count = length f })
+      × (writeBuffer (readFile f .«record») f out ≡ f ++ drop (length f) out)
 
 -- "The payload and data parts lie in the file in order, and no two share a byte."
 module _ (f : List ℕ) where
@@ -109,11 +109,12 @@ RangesApart = (f : List ℕ) → Accepted f → Ranges f
 abbrev pub bytes : Written → (after : List ℕ) → List ℕ
 bytes w after = take (w .count) after
 
--- `w1` and `w2` are the answers of the two calls, `after1` and `after2` the buffers at exit (the demand's room)
-pub record Canonicalized (f g : List ℕ) (w1 w2 : Written) (after1 after2 : List ℕ) : Type 0 where
-  -- "Both tidyings succeed."
-  pub first : w1 .status ≡ 0
-  pub second : w2 .status ≡ 0
+-- `out1` and `out2` are the buffers (the demand's room) before the two calls, `w1` and `w2` the answers, `after1` and `after2` the buffers at exit
+pub record Canonicalized (f g out1 out2 : List ℕ) (w1 w2 : Written) (after1 after2 : List ℕ) : Type 0 where
+  -- "Both tidyings succeed." A success has place 0, counts its bytes, and leaves the rest of the buffer as it was
+  pub first : w1 ≡ record { status = 0; offset = 0; count = length (bytes w1 after1) }
+  pub second : w2 ≡ record { status = 0; offset = 0; count = length (bytes w2 after2) }
+  pub rest : (drop (w1 .count) after1 ≡ drop (w1 .count) out1) × (drop (w2 .count) after2 ≡ drop (w2 .count) out2)
   -- "Their counts and the bytes they write are equal exactly when the two files show the same picture, by document 01's definition of that."
   pub equal : ((w1 .count ≡ w2 .count) × (bytes w1 after1 ≡ bytes w2 after2)) ↔ SamePicture f g
   -- "The bytes written for a file are its tidy form: an accepted file of the same picture."
@@ -131,4 +132,4 @@ pub record Canonicalized (f g : List ℕ) (w1 w2 : Written) (after1 after2 : Lis
 abbrev pub OneFormPerPicture : Type 0
 OneFormPerPicture =
     (f g out1 out2 : List ℕ) (a : Accepted f) (b : Accepted g) → length (canonicalBytes (a .0)) ≤ length out1 → length (canonicalBytes (b .0)) ≤ length out2
-    → Canonicalized f g (canonicalFile f out1) (canonicalFile g out2) (canonicalBuffer f out1) (canonicalBuffer g out2)
+    → Canonicalized f g out1 out2 (canonicalFile f out1) (canonicalFile g out2) (canonicalBuffer f out1) (canonicalBuffer g out2)

@@ -1,17 +1,21 @@
 -- Reading a file, by its length and by what its head is read as. Assumes nothing.
 use mathlib.Core.Path.{_≡_, refl, sym, ap, _∙_, subst}
-use mathlib.Core.Logic.{_≢_}
+use mathlib.Core.Logic.{_↔_, _≢_}
 use mathlib.Core.List.{List}
 use Prim.Native.Nat.{ℕ, _≤_, _<_}
 use native.Mathlib.Omega.{arith}
 use lib.ListN.{length, drop}
 use borrow.Author.Tests.{le-leb, lt-leb}
 use Rattle.bpg_codec.specs.Outcome.{ok, error, _>>=_}
+use Rattle.bpg_codec.specs.Lawful.{All, Byte}
 use Rattle.bpg_codec.proofs.Answers.{refused-error, accepted-value}
 use Rattle.bpg_format.specs.Limits.{maxFile}
+use Rattle.bpg_format.specs.declared.answer.Reading.{Reading}
 use Rattle.bpg_format.specs.Zero.{refusedReading}
+use Rattle.bpg_format.specs.Rules.{Accepted}
 use Rattle.bpg_format.specs.Read.{readHead, readBody, readContent, ReadingStatus}
 use Rattle.bpg_format.specs.Records.{answerOf, readFile}
+use Rattle.bpg_format.proofs.Reading.{accepted-status, status-accepted}
 use Rattle.bpg_format.proofs.ReadingRefusals.{content-refuses}
 use Rattle.bpg_head.specs.declared.head.Head.{Head}
 use Rattle.bpg_head.specs.Heads.{headAnswer}
@@ -46,3 +50,9 @@ pub body-answer : (file : List ℕ) → length file ≤ maxFile → (head : Head
     → answerOf (readBody (headFields head) (drop (head .end .0) file)) ≡ readFile file
 unfolding readFile
 body-answer file short head known = ap answerOf (sym (content-is file short head known))
+
+-- of bytes, the status is 0 exactly when they are an accepted file
+pub exact : (file : List ℕ) → All Byte file → (r : Reading) → r ≡ readFile file → (r ≡ readFile file) × ((r .status ≡ 0) ↔ Accepted file)
+exact file bytes r e =
+    let status = ap (λ (x : Reading). x .status) e in
+    (e, (λ z. status-accepted file bytes (sym status ∙ z), λ a. status ∙ accepted-status file a))

@@ -5,11 +5,14 @@ use bpg_format::Reading;
 use bpg_format::reading_refused;
 use bpg_head::head;
 ghost use mathlib.Core.Path.{_≡_};
+ghost use mathlib.Core.Logic.{_↔_};
+ghost use Rattle.bpg_format.specs.Rules.{Accepted};
 ghost use Rattle.bpg_format.specs.Records.{readFile};
 
 // The record of a file and its coded size; or a refusal and zeros.
 pub fn read(file: &[u8]) -> Reading
     ensures { λ r. ⌜ r ≡ readFile (now (file .entry)) ⌝ }
+    ensures { λ r. ⌜ (r .status ≡ 0) ↔ Accepted (now (file .entry)) ⌝ }
 {
     if MAX_FILE < file.len() {
         return reading_refused(1, 0);

@@ -30,7 +30,7 @@ returns-2 c =
     let w = c .before .before in
     let r = w .before .before in
     let branch = r .before in
-    rw (summary-read (branch .before .before .before .args .file .now) (branch .if1 .left), ← r .read .ensures) (w .write .ensures)
+    rw (summary-read (branch .before .before .before .args .file .now) (branch .if1 .left), ← r .read .ensures .0) (w .write .ensures)
 
 pub write-spec : {M : Type 1} → statement M
 write-spec =

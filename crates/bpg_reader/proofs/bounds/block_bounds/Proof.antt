@@ -11,7 +11,7 @@ use Rattle.bpg_reader.proofs.bounds.block_bounds.Statement.{statement}
 use Rattle.bpg_reader.proofs.bounds.block_bounds.Tie as tie
 
 returns : tie.Need-returns
-returns c = let r = c .before .before in refused-bounds _ (r .read .result) (r .read .ensures) (c .if1 .taken)
+returns c = let r = c .before .before in refused-bounds _ (r .read .result) (r .read .ensures .0) (c .if1 .taken)
 
 -- the file was read, and its head
 module _ (c : tie.After-read2) where
@@ -25,7 +25,7 @@ module _ (c : tie.After-read2) where
   bytes = all-bytes file (λ i. omega (arith, reading .before .shared-slice-known .given i))
 
   inside : c .read2 .result .end .0 + c .read2 .result .«extension_length» ≤ length file
-  inside = block-inside _ (reading .read .result) (reading .read .ensures) (c .before .if1 .left) bytes (c .read2 .result) (c .read2 .ensures)
+  inside = block-inside _ (reading .read .result) (reading .read .ensures .0) (c .before .if1 .left) bytes (c .read2 .result) (c .read2 .ensures)
 
 cast-end : tie.Need-cast-end
 cast-end c = omega (arith, inside (c .before .before))
@@ -37,7 +37,7 @@ returns-2 : tie.Need-returns-2
 returns-2 c =
     let h = c .before .before .before in
     let r = reading h in
-    accepted-bounds _ (r .read .result) (r .read .ensures) (h .before .if1 .left) (bytes h) (h .read2 .result) (h .read2 .ensures)
+    accepted-bounds _ (r .read .result) (r .read .ensures .0) (h .before .if1 .left) (bytes h) (h .read2 .result) (h .read2 .ensures)
 
 pub block-bounds-spec : {M : Type 1} → statement M
 block-bounds-spec = tie.close (tie.spec (λ c κs. search needs) returns (λ c κs. search needs) cast-end add-end returns-2)

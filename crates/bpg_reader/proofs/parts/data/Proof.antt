@@ -34,14 +34,14 @@ part-result-end c =
     let r = c .before .before .before in
     let file = r .before .before .args .file .now in
     let inside = data-inside file (all-bytes file (λ i. omega (arith, r .before .shared-slice-known .given i))) in
-    omega (arith, inside, ap (λ (x : Reading). rangeEnd (x .«record» .«data»)) (r .read .ensures))
+    omega (arith, inside, ap (λ (x : Reading). rangeEnd (x .«record» .«data»)) (r .read .ensures .0))
 
 returns : tie.Need-returns
 returns c =
     let r = c .before .before .before .before in
     let p = r .read .result .«record» .«data» in
     let n : p .start + p .length - p .start ≡ p .length = omega arith in
-    (data-bytes _ (r .read .result) (r .read .ensures) n, (refl, omega (arith, ap (λ (x : Reading). x .«record» .«data» .start) (r .read .ensures))))
+    (data-bytes _ (r .read .result) (r .read .ensures .0) n, (refl, omega (arith, ap (λ (x : Reading). x .«record» .«data» .start) (r .read .ensures .0))))
 
 pub data-spec : {M : Type 1} → statement M
 data-spec =

@@ -15,7 +15,7 @@ cast-if1 : tie.Need-cast-if1
 cast-if1 c = search needs
 
 returns : tie.Need-returns
-returns c = let r = c .before .before in entry-absent _ _ (r .read .result) (r .read .ensures) (c .if1 .taken)
+returns c = let r = c .before .before in entry-absent _ _ (r .read .result) (r .read .ensures .0) (c .if1 .taken)
 
 mul-entry : tie.Need-mul-entry
 mul-entry c = search needs
@@ -25,10 +25,10 @@ element-copy-out-entry c =
     let r = c .before .before in
     let file = r .before .before .args .file .now in
     let most = count-most file (all-bytes file (λ i. omega (arith, r .before .shared-slice-known .given i))) in
-    omega (arith, c .if1 .left, most, ap (λ (x : Reading). x .«record» .«entry_count») (r .read .ensures))
+    omega (arith, c .if1 .left, most, ap (λ (x : Reading). x .«record» .«entry_count») (r .read .ensures .0))
 
 returns-2 : tie.Need-returns-2
-returns-2 c = let r = c .before .before .before in entry-found _ _ (r .read .result) (r .read .ensures) (c .before .if1 .left)
+returns-2 c = let r = c .before .before .before in entry-found _ _ (r .read .result) (r .read .ensures .0) (c .before .if1 .left)
 
 pub entry-at-spec : {M : Type 1} → statement M
 entry-at-spec =
