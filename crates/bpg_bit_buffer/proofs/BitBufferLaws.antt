@@ -1,5 +1,5 @@
 -- The laws of the bit buffer: bits appended to gathered bits are gathered with them, and its bytes are the bits with zero bits up to the byte.
--- Assumes nothing.
+--
 use mathlib.Core.Path.{_≡_, refl, sym, ap, ap₂, _∙_}
 use mathlib.Core.Bool.{Bool}
 use mathlib.Core.List.{List, _++_}

@@ -1,4 +1,4 @@
--- What is left after a number in bits, whatever the bits are. Assumes nothing.
+-- What is left after a number in bits, whatever the bits are.
 use mathlib.Core.Path.{_≡_, subst}
 use mathlib.Core.Bool.{Bool, true, false}
 use mathlib.Core.List.{List, [], _∷_}

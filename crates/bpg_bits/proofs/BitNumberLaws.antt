@@ -1,5 +1,5 @@
 -- The laws of u(n) and ue(v), over the width: the readers' equations, the round trip, that a number has one form only, and how
--- long it is. Assumes nothing.
+-- long it is.
 use mathlib.Core.Path.{_≡_, refl, sym, ap, _∙_, subst}
 use mathlib.Core.Bool.{Bool, true, false}
 use mathlib.Core.List.{List, [], _∷_, _++_, append-assoc}

@@ -1,4 +1,4 @@
--- The status of u(n) and ue(v): 15. Assumes nothing.
+-- The status of u(n) and ue(v): 15.
 use mathlib.Core.Bool.{Bool, true, false}
 use mathlib.Core.List.{List, [], _∷_}
 use Prim.Native.Nat.{ℕ, _+_, _-_, _^_}

@@ -59,7 +59,7 @@ compares f g out1 out2 a b h k =
       of-second = one-form-per-picture g f out2 out1 b a k h;
       same-picture = (
         λ t. let e = same-equal l m (true-test (same l m) (sym both ∙ t)) in
-        x .equal .0 (ap (λ (w : Written). w .count) (x .first) ∙ ap length e ∙ sym (ap (λ (w : Written). w .count) (x .second)), e),
+            x .equal .0 (ap (λ (w : Written). w .count) (x .first) ∙ ap length e ∙ sym (ap (λ (w : Written). w .count) (x .second)), e),
         λ p. both ∙ test-true (same l m) (subst (λ (y : List ℕ). T (same l y)) (x .equal .1 p .1) (same-refl l)),
       );
     }

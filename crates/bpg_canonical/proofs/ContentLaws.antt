@@ -1,4 +1,4 @@
--- The canonical record of an accepted file, over that file, has the canonical content. Assumes nothing.
+-- The canonical record of an accepted file, over that file, has the canonical content.
 use mathlib.Core.Path.{_≡_, refl, sym, ap, ap₂, _∙_, subst}
 use mathlib.Core.Bool.{Bool, true, false, not, _&&_}
 use mathlib.Core.List.{List, [], _∷_, _++_, map, append-assoc, append-nil}

@@ -1,4 +1,4 @@
--- What canonicalizing answers: the reader's refusals, then what writing the canonical record over the file answers. Assumes nothing.
+-- What canonicalizing answers: the reader's refusals, then what writing the canonical record over the file answers.
 use mathlib.Core.Path.{_≡_, refl, sym, ap, _∙_, subst}
 use mathlib.Core.Logic.{_≢_}
 use mathlib.Core.List.{List}

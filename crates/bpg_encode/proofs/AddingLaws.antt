@@ -1,4 +1,4 @@
--- The laws of adding bits to a buffer: one part after another, no part, a part that a flag leaves out. Assumes nothing.
+-- The laws of adding bits to a buffer: one part after another, no part, a part that a flag leaves out.
 use mathlib.Core.Path.{_≡_, sym, ap, _∙_}
 use mathlib.Core.Bool.{Bool, true, false}
 use mathlib.Core.List.{List, [], _++_, append-assoc, append-nil}

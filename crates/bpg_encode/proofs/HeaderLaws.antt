@@ -1,5 +1,5 @@
 -- The bits of a header: at most 58 where it keeps the rules; its groups, added to an empty buffer, are all that the buffer holds.
--- Assumes nothing.
+--
 use mathlib.Core.Path.{_≡_, refl, sym, ap, _∙_}
 use mathlib.Core.Bool.{Bool, true, false}
 use mathlib.Core.List.{List, [], _∷_, _++_, append-assoc}

@@ -1,4 +1,4 @@
--- Reading a tag 5 payload, by what each of its numbers is read as. Assumes nothing.
+-- Reading a tag 5 payload, by what each of its numbers is read as.
 use mathlib.Core.Path.{_≡_, _∙_}
 use mathlib.Core.List.{List}
 use Prim.Native.Nat.{ℕ, _^_, _<_}

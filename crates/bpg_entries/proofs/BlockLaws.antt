@@ -1,4 +1,4 @@
--- Reading the entries of a block one after another. Assumes nothing.
+-- Reading the entries of a block one after another.
 use mathlib.Core.Path.{_≡_, refl, sym, ap, ap₂, _∙_}
 use mathlib.Core.Bool.{Bool, true, false, _||_, or-false, or-true}
 use mathlib.Core.Logic.{_≢_}

@@ -51,7 +51,7 @@ module _ (e : Extension) (tag-fits : e .tag < 2 ^ 32) (size-fits : length (e .pa
   abbrev size : List ℕ
   size = ue7Bytes (length (e .payload))
 
-  pub entry-written : entryStart p (extensionBytes e ++ after) 
+  pub entry-written : entryStart p (extensionBytes e ++ after)
       ≡ ok (decoded (record { tag = e .tag; size = length (e .payload) }) (p + length tag + length size) (e .payload ++ after))
   unfolding entryStart
   entry-written =

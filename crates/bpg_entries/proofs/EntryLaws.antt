@@ -1,4 +1,4 @@
--- Reading an entry: its start, by the case that it falls into; then its payload, which has loop numbers where its tag is 5. Assumes nothing.
+-- Reading an entry: its start, by the case that it falls into; then its payload, which has loop numbers where its tag is 5.
 use mathlib.Core.Path.{_≡_, refl, sym, ap, _∙_, subst}
 use mathlib.Core.Bool.{Bool, true, false, not, _&&_}
 use mathlib.Core.Logic.{_≢_}

@@ -1,4 +1,4 @@
--- A block with one more entry at its end: entries, bytes, loop numbers. Assumes nothing.
+-- A block with one more entry at its end: entries, bytes, loop numbers.
 use mathlib.Core.Path.{_≡_, refl, sym, ap, _∙_, subst}
 use mathlib.Core.Bool.{Bool, true, false, _||_, or-false, or-assoc}
 use mathlib.Core.List.{List, [], _∷_, _++_, append-assoc}

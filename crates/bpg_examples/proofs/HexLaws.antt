@@ -1,4 +1,4 @@
--- The value of a character, and what one more character does, case by case. Assumes nothing.
+-- The value of a character, and what one more character does, case by case.
 use mathlib.Core.Path.{_≡_, sym, _∙_}
 use Prim.Native.Nat.{ℕ, _-_, _≤_, _<_}
 use native.Mathlib.Omega.{arith}

@@ -1,4 +1,4 @@
--- All fields of a header as a chain of groups, and the limits of those that a byte holds. Assumes nothing.
+-- All fields of a header as a chain of groups, and the limits of those that a byte holds.
 use mathlib.Core.Path.{_≡_, refl, sym, ap, _∙_}
 use mathlib.Core.Bool.{Bool, true, false, true≢false}
 use mathlib.Core.List.{List}

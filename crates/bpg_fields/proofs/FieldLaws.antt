@@ -1,4 +1,4 @@
--- Each group of fields as a chain of its parts. Assumes nothing.
+-- Each group of fields as a chain of its parts.
 use mathlib.Core.Path.{_≡_, sym, ap, _∙_}
 use mathlib.Core.Bool.{Bool, true, false}
 use mathlib.Core.List.{List}

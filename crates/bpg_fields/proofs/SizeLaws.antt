@@ -1,4 +1,4 @@
--- The first 64 bits of a header as a number, and the codes that they show. Assumes nothing.
+-- The first 64 bits of a header as a number, and the codes that they show.
 use mathlib.Core.Path.{_≡_, refl, sym, ap, ap₂, _∙_, subst}
 use mathlib.Core.Bool.{Bool, false}
 use mathlib.Core.List.{List, [], _∷_, _++_, append-assoc}

@@ -1,4 +1,4 @@
--- The canonical form: it keeps the rules and the picture, and is not longer. Assumes nothing.
+-- The canonical form: it keeps the rules and the picture, and is not longer.
 use mathlib.Core.Path.{_≡_, refl, sym, ap, ap₂, _∙_}
 use mathlib.Core.Bool.{Bool, true, false, not, _||_}
 use mathlib.Core.List.{List, [], _∷_, _++_, map, cons≢nil}

@@ -1,4 +1,4 @@
--- Each example of the table holds, and so do the answers that `WrongAnswers` needs: all by computation. Assumes nothing.
+-- Each example of the table holds, and so do the answers that `WrongAnswers` needs: all by computation.
 use mathlib.Core.Path.{_≡_, refl}
 use lib.ListN.{set, replicate}
 use lib.Count.{leadingZeros}

@@ -1,4 +1,4 @@
--- The laws of the format's codecs, put together as the codecs are. Assumes nothing.
+-- The laws of the format's codecs, put together as the codecs are.
 use mathlib.Core.Path.{_≡_, refl, sym, ap}
 use mathlib.Core.Bool.{Bool, true, false, not, _&&_, _||_}
 use mathlib.Core.List.{List, []}

@@ -1,4 +1,4 @@
--- The laws of the first six bytes. Assumes nothing.
+-- The laws of the first six bytes.
 use mathlib.Core.Path.{_≡_, refl, sym, ap, ap₂, _∙_, subst}
 use mathlib.Core.Bool.{Bool, true}
 use mathlib.Core.List.{List, [], _∷_, _++_}

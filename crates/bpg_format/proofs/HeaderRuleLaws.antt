@@ -1,4 +1,4 @@
--- A header is valid for its codec exactly when it keeps the rules by name and its length has a code. Assumes nothing.
+-- A header is valid for its codec exactly when it keeps the rules by name and its length has a code.
 use mathlib.Core.Path.{_≡_, refl, ap, _∙_}
 use mathlib.Core.Bool.{Bool, true, false, not, _||_}
 use mathlib.Core.List.{List}

@@ -1,4 +1,4 @@
--- Payloads and data of a file lie in it in order, and no two share a byte. Assumes nothing.
+-- Payloads and data of a file lie in it in order, and no two share a byte.
 use mathlib.Core.Path.{_≡_, refl, sym, ap, _∙_, subst}
 use mathlib.Core.List.{List, [], _∷_, _++_, map}
 use Prim.Native.Nat.{ℕ, zero, suc, _+_, _-_, _≤_, _<_}

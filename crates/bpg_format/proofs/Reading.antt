@@ -1,4 +1,4 @@
--- A file is read as a content exactly when it is the syntax's file of that content and the content keeps the rules. Assumes nothing.
+-- A file is read as a content exactly when it is the syntax's file of that content and the content keeps the rules.
 use mathlib.Core.Path.{_≡_, refl, sym, ap, _∙_, subst}
 use mathlib.Core.List.{List}
 use mathlib.Core.Logic.{_≢_}

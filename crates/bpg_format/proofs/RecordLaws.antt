@@ -1,4 +1,4 @@
--- A record over its file gives its content back. Assumes nothing.
+-- A record over its file gives its content back.
 use mathlib.Core.Path.{_≡_, refl, sym, ap, ap₂, _∙_}
 use mathlib.Core.Bool.{Bool, true, false}
 use mathlib.Core.List.{List, [], _∷_, _++_, append-assoc, map}

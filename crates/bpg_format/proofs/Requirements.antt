@@ -1,4 +1,4 @@
--- The requirements hold. Assumes nothing.
+-- The requirements hold.
 use mathlib.Core.Path.{_≡_, refl, sym, ap, _∙_, subst}
 use mathlib.Core.Bool.{Bool, true, false}
 use mathlib.Core.List.{List, [], _++_}

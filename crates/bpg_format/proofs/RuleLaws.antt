@@ -1,4 +1,4 @@
--- A content is valid for the file's codec exactly when it keeps the rules by name. Assumes nothing.
+-- A content is valid for the file's codec exactly when it keeps the rules by name.
 use mathlib.Core.Path.{_≡_, refl, sym, ap, _∙_, subst}
 use mathlib.Core.Bool.{Bool, true, false, not, _&&_, _||_, or-true}
 use mathlib.Core.List.{List, [], _∷_}

@@ -1,4 +1,4 @@
--- What the codec writes is the file as plain concatenation. Assumes nothing.
+-- What the codec writes is the file as plain concatenation.
 use mathlib.Core.Path.{_≡_, refl, ap₂}
 use mathlib.Core.Bool.{Bool, true, false}
 use mathlib.Core.List.{List, [], _∷_, _++_, append-assoc}

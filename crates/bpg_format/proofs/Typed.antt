@@ -1,4 +1,4 @@
--- What the types give of a value of a program: the lengths of its arrays. A function's context has `good`, which holds of each parameter. Assumes nothing.
+-- What the types give of a value of a program: the lengths of its arrays. A function's context has `good`, which holds of each parameter.
 use mathlib.Core.Path.{_≡_, sym, _∙_}
 use mathlib.Core.List.{List, [], _∷_, map}
 use Prim.Native.Nat.{ℕ, _^_, _<_}

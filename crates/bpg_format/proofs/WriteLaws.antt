@@ -1,4 +1,4 @@
--- The writer's tests, in its order, pass exactly for contents that keep the rules. Assumes nothing.
+-- The writer's tests, in its order, pass exactly for contents that keep the rules.
 use mathlib.Core.Path.{_≡_, refl, sym, ap, _∙_, subst}
 use mathlib.Core.Bool.{Bool, true, false, not, _&&_, _||_, or-true}
 use mathlib.Core.List.{List, [], _∷_}

@@ -1,4 +1,4 @@
--- The writer's definition answers 0 exactly for writable records, and then the bytes are the syntax's file. Assumes nothing.
+-- The writer's definition answers 0 exactly for writable records, and then the bytes are the syntax's file.
 use mathlib.Core.Path.{_≡_, refl, sym, ap, _∙_}
 use mathlib.Core.Bool.{true, false, not, _&&_, _||_}
 use mathlib.Core.List.{List, [], _∷_, map}

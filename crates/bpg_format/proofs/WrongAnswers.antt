@@ -1,4 +1,4 @@
--- The programs that document 01 wants shut out ("What each call binds itself to"): no answers of that kind are the definitions' answers. Assumes nothing.
+-- The programs that document 01 wants shut out ("What each call binds itself to"): no answers of that kind are the definitions' answers.
 use mathlib.Core.Path.{_≡_, sym, ap, _∙_}
 use mathlib.Core.Logic.{_≢_}
 use mathlib.Core.List.{List}

@@ -1,4 +1,4 @@
--- Reading the first six bytes, by the case that they fall into. Assumes nothing.
+-- Reading the first six bytes, by the case that they fall into.
 use mathlib.Core.Path.{_≡_, refl, sym, ap, _∙_, subst}
 use mathlib.Core.Bool.{true, false, _&&_, and-true}
 use mathlib.Core.Logic.{_≢_}

@@ -1,4 +1,4 @@
--- What is known of a head that was read: that it ends within its file, and that its bit depth is one of document 01's. Assumes nothing.
+-- What is known of a head that was read: that it ends within its file, and that its bit depth is one of document 01's.
 use mathlib.Core.Path.{_≡_, sym, ap, subst}
 use mathlib.Core.Bool.{Bool, true, false}
 use mathlib.Core.List.{List}

@@ -1,4 +1,4 @@
--- Reading the head, by what each of its parts is read as. Assumes nothing.
+-- Reading the head, by what each of its parts is read as.
 use mathlib.Core.Path.{_≡_}
 use mathlib.Core.List.{List}
 use Prim.Native.Nat.{ℕ}

@@ -1,4 +1,4 @@
--- Reading width and height, by what each of them is read as. Assumes nothing.
+-- Reading width and height, by what each of them is read as.
 use mathlib.Core.Path.{_≡_, sym, ap, _∙_, subst}
 use mathlib.Core.Logic.{_≢_}
 use mathlib.Core.List.{List}

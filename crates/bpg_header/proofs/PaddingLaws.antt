@@ -1,4 +1,4 @@
--- The bits after a header's last field. Assumes nothing.
+-- The bits after a header's last field.
 use mathlib.Core.Path.{_≡_, refl, sym, ap, _∙_, subst}
 use mathlib.Core.Bool.{Bool, true, false}
 use mathlib.Core.List.{List, [], _∷_}

@@ -1,4 +1,4 @@
--- Document 01's lines ("The desk's examples"), by computation. Assumes nothing.
+-- Document 01's lines ("The desk's examples"), by computation.
 use mathlib.Core.Path.{_≡_, refl}
 use Prim.Native.Nat.{_^_, _-_}
 use Rattle.bpg_codec.specs.Select.{select}

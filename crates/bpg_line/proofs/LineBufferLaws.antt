@@ -1,4 +1,4 @@
--- The laws of the line buffer: text appended to a buffer that holds text. Assumes nothing.
+-- The laws of the line buffer: text appended to a buffer that holds text.
 use mathlib.Core.Path.{_≡_, refl, sym, ap, ap₂, _∙_}
 use mathlib.Core.List.{List, [], _++_, append-assoc}
 use Prim.Native.Nat.{ℕ, _+_, _-_, _≤_}

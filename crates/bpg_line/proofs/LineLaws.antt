@@ -1,4 +1,4 @@
--- The cases of the line, and how long it is: every line fits the line buffer. Assumes nothing.
+-- The cases of the line, and how long it is: every line fits the line buffer.
 use mathlib.Core.Path.{_≡_}
 use mathlib.Core.Bool.{Bool, true, false}
 use Prim.Native.Nat.{ℕ, _+_, _^_, _≤_, _<_}

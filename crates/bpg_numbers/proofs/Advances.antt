@@ -1,4 +1,4 @@
--- What is left after a number, and that it is below its limit, whatever the bytes are. Assumes nothing.
+-- What is left after a number, and that it is below its limit, whatever the bytes are.
 use mathlib.Core.Path.{_≡_, sym, ap, _∙_, subst}
 use mathlib.Core.Bool.{Bool, true, false, not}
 use mathlib.Core.List.{List, [], _∷_}

@@ -1,4 +1,4 @@
--- The statuses of ue7(n): 2, 7 and 8. Assumes nothing.
+-- The statuses of ue7(n): 2, 7 and 8.
 use mathlib.Core.Bool.{not}
 use mathlib.Core.List.{List, [], _∷_}
 use Prim.Native.Nat.{ℕ, _+_, _*_, _%_, _^_}

@@ -1,4 +1,4 @@
--- The body of a file as the steps of its reader. Assumes nothing.
+-- The body of a file as the steps of its reader.
 use mathlib.Core.Path.{_≡_, sym, ap, _∙_}
 use mathlib.Core.Bool.{not, _||_}
 use mathlib.Core.List.{List}

@@ -1,4 +1,4 @@
--- Reading the body of a file, by what each of its parts is read as. Assumes nothing.
+-- Reading the body of a file, by what each of its parts is read as.
 use mathlib.Core.Path.{_≡_, refl, sym, ap, _∙_, subst}
 use mathlib.Core.Logic.{_≢_}
 use mathlib.Core.Bool.{true, false, not, _||_}

@@ -1,4 +1,4 @@
--- The offsets of a file's parts are those that its content's record names. Assumes nothing.
+-- The offsets of a file's parts are those that its content's record names.
 use mathlib.Core.Path.{_≡_, sym, ap, _∙_}
 use mathlib.Core.Bool.{false}
 use mathlib.Core.List.{List, _++_}

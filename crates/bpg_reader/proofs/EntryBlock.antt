@@ -1,4 +1,4 @@
--- The extension block of a file, as a region that ends with it. Assumes nothing.
+-- The extension block of a file, as a region that ends with it.
 use mathlib.Core.Path.{_≡_}
 use mathlib.Core.List.{List}
 use Prim.Native.Nat.{ℕ, _-_, _≤_, _<_}

@@ -1,4 +1,4 @@
--- Reading a file, by its length and by what its head is read as. Assumes nothing.
+-- Reading a file, by its length and by what its head is read as.
 use mathlib.Core.Path.{_≡_, refl, sym, ap, _∙_, subst}
 use mathlib.Core.Logic.{_↔_, _≢_}
 use mathlib.Core.List.{List}

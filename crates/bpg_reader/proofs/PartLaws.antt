@@ -1,4 +1,4 @@
--- The parts that a file's record names lie in the file. Assumes nothing.
+-- The parts that a file's record names lie in the file.
 use mathlib.Core.Path.{_≡_, refl, sym, ap, _∙_, subst}
 use mathlib.Core.List.{List, [], _∷_, _++_, map}
 use Prim.Native.Nat.{ℕ, zero, suc, _+_, _-_, _≤_, _<_}

@@ -1,4 +1,4 @@
--- For the bytes of file A `bpgshow` prints exactly document 01's line. Assumes nothing.
+-- For the bytes of file A `bpgshow` prints exactly document 01's line.
 use mathlib.Core.Path.{_≡_, refl, ap, _∙_}
 use Rattle.bpg_codec.specs.Select.{select}
 use Rattle.bpg_format.specs.Records.{readFile}

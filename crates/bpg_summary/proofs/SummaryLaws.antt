@@ -1,4 +1,4 @@
--- The cases of the summary. Assumes nothing.
+-- The cases of the summary.
 use mathlib.Core.Path.{_≡_}
 use mathlib.Core.List.{List}
 use Prim.Native.Nat.{ℕ, _≤_, _<_}

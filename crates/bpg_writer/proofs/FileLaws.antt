@@ -1,4 +1,4 @@
--- What writing answers, by the judging and by the size of the file. Assumes nothing.
+-- What writing answers, by the judging and by the size of the file.
 use mathlib.Core.Path.{_≡_, sym, ap, _∙_}
 use mathlib.Core.Logic.{_≢_}
 use mathlib.Core.List.{List, _++_}

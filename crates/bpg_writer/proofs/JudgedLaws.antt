@@ -1,4 +1,4 @@
--- What is known of a record that passed the judging. Assumes nothing.
+-- What is known of a record that passed the judging.
 use mathlib.Core.Path.{_≡_, sym, _∙_}
 use mathlib.Core.Bool.{true, false, not, _&&_, _||_}
 use mathlib.Core.List.{List, [], map}

@@ -1,4 +1,4 @@
--- The sizes of a file's parts. Assumes nothing.
+-- The sizes of a file's parts.
 use mathlib.Core.Path.{_≡_, ap, _∙_}
 use mathlib.Core.Bool.{Bool, true, _||_}
 use mathlib.Core.List.{List, [], _∷_, _++_}

@@ -1,4 +1,4 @@
--- The parts of a file as what is written one after another. Assumes nothing.
+-- The parts of a file as what is written one after another.
 use mathlib.Core.Path.{_≡_, refl, sym, ap, ap₂, _∙_}
 use mathlib.Core.List.{List, [], _∷_, _++_, map, append-assoc, append-nil}
 use Prim.Native.Nat.{ℕ, zero, suc, _+_, _≤_, _<_}

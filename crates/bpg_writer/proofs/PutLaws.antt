@@ -1,4 +1,4 @@
--- Writes one after another are one write. Assumes nothing.
+-- Writes one after another are one write.
 use mathlib.Core.Path.{_≡_, sym, ap, ap₂, _∙_, subst}
 use mathlib.Core.Bool.{Bool, true, false}
 use mathlib.Core.List.{List, [], _++_, append-assoc}

@@ -1,4 +1,4 @@
--- What is measured is the length of the file, and what is written is the file. Assumes nothing.
+-- What is measured is the length of the file, and what is written is the file.
 use mathlib.Core.Path.{_≡_, refl, sym, ap, ap₂, _∙_}
 use mathlib.Core.Bool.{Bool, true, false, _||_}
 use mathlib.Core.List.{List, [], _∷_, _++_, map, append-assoc}

@@ -1,4 +1,4 @@
--- `append` meets its contract: a shift and a sum. Assumes nothing.
+-- `append` meets its contract: a shift and a sum.
 use mathlib.Core.Path.{_≡_, sym, ap, _∙_, subst}
 use Prim.Native.Nat.{ℕ, min, _+_, _-_, _*_, _%_, _^_, _≤_, _<_}
 use native.Mathlib.Nat.{zero-add, zero-mul, mod-lt}
@@ -54,35 +54,17 @@ module _ (c : tie.After-least) where
   same : appended b (bits (c .least .result) v) ≡ appended b (bits (min (c .before .args .n) 63) v)
   same = ap (λ (w : ℕ). appended b (bits w v)) (c .least .ensures)
 
-least-requires : tie.Need-least-requires
-least-requires c κs = search needs
-
-overfull-requires : tie.Need-overfull-requires
-overfull-requires c κs = search needs
-
 returns : tie.Need-returns
 returns c = let l = c .before .before .before in appended-not (b l) (v l) _ (most l) (omega arith) _ (c .overfull .ensures) ∙ same l
 
-overfull-requires-2 : tie.Need-overfull-requires-2
-overfull-requires-2 c κs = search needs
-
 returns-2 : tie.Need-returns-2
 returns-2 c = let l = c .before .before .before .before .before in appended-not (b l) (v l) _ (most l) (omega arith) _ (c .overfull2 .ensures) ∙ same l
-
-shl-t8 : tie.Need-shl-t8
-shl-t8 c = search needs
-
-shl-t10 : tie.Need-shl-t10
-shl-t10 c = search needs
 
 rem-t11 : tie.Need-rem-t11
 rem-t11 c = let l = c .before .before .before .before .before in positive (b l) (v l) _ (most l)
 
 add-t12 : tie.Need-add-t12
 add-t12 c = let l = c .before .before .before .before .before in omega (arith, sum-fits (b l) (v l) _ (most l))
-
-add-t5 : tie.Need-add-t5
-add-t5 c = search needs
 
 returns-3 : tie.Need-returns-3
 returns-3 c = let l = c .before .before .before .before .before .before in appended-is (b l) (v l) _ (most l) (omega arith) ∙ same l
@@ -91,14 +73,14 @@ pub append-spec : {M : Type 1} → statement M
 append-spec =
     tie.close
     (tie.spec
-    least-requires
-    overfull-requires
+    (λ c κs. search needs)
+    (λ c κs. search needs)
     returns
-    overfull-requires-2
+    (λ c κs. search needs)
     returns-2
-    shl-t8
-    shl-t10
+    (λ c. search needs)
+    (λ c. search needs)
     rem-t11
     add-t12
-    add-t5
+    (λ c. search needs)
     returns-3)

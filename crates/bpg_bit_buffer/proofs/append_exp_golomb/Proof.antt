@@ -1,4 +1,4 @@
--- `append_exp_golomb` meets its contract: the code of v is v + 1 in as many bits as it takes. Assumes nothing.
+-- `append_exp_golomb` meets its contract: the code of v is v + 1 in as many bits as it takes.
 use Prim.Native.Nat.{ℕ, min, _+_, _-_, _*_, _^_, _≤_, _<_}
 use mathlib.Core.Path.{_≡_, refl, sym, ap, _∙_}
 use mathlib.Core.List.{[]}
@@ -28,17 +28,8 @@ field v n e = either-way (2 ^ 32 - 1) v none some
         let m : min n 63 ≡ 2 * prefixZeros v + 1 = omega (arith, expGolomb-size v h, top v h .0 .most) in
         rw m (sym (expGolomb-one-field v h))
 
-size-requires : tie.Need-size-requires
-size-requires c κs = search needs
-
-add-append : tie.Need-add-append
-add-append c = search needs
-
-append-requires : tie.Need-append-requires
-append-requires c κs = search needs
-
 returns : tie.Need-returns
 returns c = c .append .ensures ∙ ap (appended (c .before .before .args .b)) (field _ _ (c .before .size .ensures))
 
 pub append-exp-golomb-spec : {M : Type 1} → statement M
-append-exp-golomb-spec = tie.close (tie.spec size-requires add-append append-requires returns)
+append-exp-golomb-spec = tie.close (tie.spec (λ c κs. search needs) (λ c. search needs) (λ c κs. search needs) returns)

@@ -1,4 +1,4 @@
--- `left_aligned` meets its contract. Assumes nothing.
+-- `left_aligned` meets its contract.
 use mathlib.Core.Path.{_≡_, sym, ap, ap₂, _∙_, subst}
 use mathlib.Core.List.{_++_}
 use Prim.Native.Nat.{ℕ, _+_, _-_, _*_, _%_, _^_, _≤_}
@@ -31,14 +31,8 @@ some v n h =
 returns : tie.Need-returns
 returns c = none _ _ (c .if1 .taken)
 
-sub-result : tie.Need-sub-result
-sub-result c = search needs
-
-shl-result : tie.Need-shl-result
-shl-result c = search needs
-
 returns-2 : tie.Need-returns-2
 returns-2 c = some _ _ (c .before .pre)
 
 pub left-aligned-spec : {M : Type 1} → statement M
-left-aligned-spec = tie.close (tie.spec returns sub-result shl-result returns-2)
+left-aligned-spec = tie.close (tie.spec returns (λ c. search needs) (λ c. search needs) returns-2)

@@ -6,9 +6,6 @@ use borrow.Author.Needs.{needs}
 use Rattle.bpg_export.proofs.bpg_entry.Statement.{statement}
 use Rattle.bpg_export.proofs.bpg_entry.Tie as tie
 
-enum-told : tie.Need-enum-told
-enum-told c = search needs
-
 returns : tie.Need-returns
 returns c =
     let r = c .before .before in
@@ -22,4 +19,4 @@ returns-2 c =
     answered _ _ (EntryAt.Found _) e
 
 pub bpg-entry-spec : {M : Type 1} → statement M
-bpg-entry-spec = tie.close (tie.spec (λ c κs. search needs) enum-told (λ c. search needs) returns returns-2)
+bpg-entry-spec = tie.close (tie.spec (λ c κs. search needs) (λ c. search needs) (λ c. search needs) returns returns-2)

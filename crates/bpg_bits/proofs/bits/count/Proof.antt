@@ -1,4 +1,4 @@
--- `bits::count` meets its contract. Assumes nothing.
+-- `bits::count` meets its contract.
 use Prim.Native.Nat.{ℕ, min, _*_, _^_}
 use mathlib.Core.Path.{_≡_}
 use mathlib.Core.List.{List}
@@ -10,12 +10,6 @@ use borrow.Author.Needs.{needs}
 use Rattle.bpg_bits.proofs.bits.count.Statement.{statement}
 use Rattle.bpg_bits.proofs.bits.count.Tie as tie
 
-least-requires : tie.Need-least-requires
-least-requires c κs = search needs
-
-mul-result : tie.Need-mul-result
-mul-result c = search needs
-
 counted : (l : List ℕ) (n : ℕ) → n ≡ min (length l) (2 ^ 60) → 8 * n ≡ length (regionBits l)
 counted l n e = rw (length-unpack (take (2 ^ 60) l), length-take) (omega arith)
 
@@ -23,4 +17,4 @@ returns : tie.Need-returns
 returns c = counted (c .before .before .args .region .now) _ (c .least .ensures)
 
 pub count-spec : {M : Type 1} → statement M
-count-spec = tie.close (tie.spec least-requires mul-result returns)
+count-spec = tie.close (tie.spec (λ c κs. search needs) (λ c. search needs) returns)

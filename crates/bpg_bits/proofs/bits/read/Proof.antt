@@ -1,4 +1,4 @@
--- `bits::read` meets its contract. The invariant: the value so far and the bits that are left make the number. Assumes nothing.
+-- `bits::read` meets its contract. The invariant: the value so far and the bits that are left make the number.
 use Prim.Native.Nat.{ℕ, suc, min, _+_, _-_, _*_, _^_, _≤_, _<_}
 use mathlib.Core.Path.{_≡_, ap, _∙_}
 use mathlib.Core.Bool.{Bool, false}
@@ -66,9 +66,6 @@ returns : tie.Need-returns Inv-loop μ-loop
 returns c = let a = c .before .before .before .before .before .args in
     short (regionBits (a .region .now)) (a .at .0) (min (a .n) 32) (omega arith)
 
-add-past : tie.Need-add-past Inv-loop μ-loop
-add-past c = omega arith
-
 loop-holds : tie.Need-loop-holds Inv-loop μ-loop
 loop-holds c = let st = c .before .before .before .before .before in
     (omega arith, omega arith, pow-pos (st .args .at .0 - st .args .at .0), begins (regionBits (st .args .region .now)) (st .args .at .0) (c .before .before .before .least .result))
@@ -83,12 +80,6 @@ bit-inside-requires c κs =
 
 add-value : tie.Need-add-value Inv-loop μ-loop
 add-value c = omega (arith, turning (c .before), one-bit c)
-
-add-next : tie.Need-add-next Inv-loop μ-loop
-add-next c = omega arith
-
-loop-less : tie.Need-loop-less Inv-loop μ-loop
-loop-less c = omega arith
 
 loop-again : tie.Need-loop-again Inv-loop μ-loop
 loop-again c = let l = c .before .before .loop in
@@ -119,13 +110,13 @@ read-spec =
     (λ c κs. search needs)
     (λ c κs. search needs)
     returns
-    add-past
+    (λ c. omega arith)
     loop-holds
     mul-value
     bit-inside-requires
     add-value
-    add-next
-    loop-less
+    (λ c. omega arith)
+    (λ c. omega arith)
     loop-again
     (λ c. omega (arith, ending c))
     returns-2)

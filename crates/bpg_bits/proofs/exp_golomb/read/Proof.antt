@@ -1,5 +1,5 @@
 -- `exp_golomb::read` meets its contract. The invariant: counting on from the next bit gives what counting from the first does.
--- Assumes nothing.
+--
 use Prim.Native.Nat.{ℕ, _+_, _-_, _^_, _≤_, _<_}
 use mathlib.Core.Path.{_≡_, refl, sym, ap, _∙_}
 use mathlib.Core.Bool.{Bool, true, false}
@@ -60,24 +60,12 @@ bit-inside-requires c κs =
     let l = c .before .before .before .before .args .region .now in
     omega (arith, length-unpack (take (2 ^ 60) l), length-take (2 ^ 60) l)
 
-suffix-requires : tie.Need-suffix-requires Inv-loop μ-loop
-suffix-requires c κs = omega arith
-
 returns : tie.Need-returns Inv-loop μ-loop
 returns c = c .suffix .ensures ∙ ap bitAnswer (one _ _ _ _ (c .before .before .before .before .loop .inv .1) (omega arith) (bit-is-one _ (sym (seen (c .before .before)) ∙ c .before .if1 .taken)))
 
 returns-2 : tie.Need-returns-2 Inv-loop μ-loop
 returns-2 c =
     ap bitAnswer (long _ _ _ _ (c .before .before .before .before .loop .inv .1) (omega arith) (omega arith) (bit-not-one _ (λ e. c .before .if1 .left (seen (c .before .before) ∙ e))))
-
-add-z : tie.Need-add-z Inv-loop μ-loop
-add-z c = omega arith
-
-add-next : tie.Need-add-next Inv-loop μ-loop
-add-next c = omega arith
-
-loop-less : tie.Need-loop-less Inv-loop μ-loop
-loop-less c = omega arith
 
 loop-again : tie.Need-loop-again Inv-loop μ-loop
 loop-again c = (omega arith, more _ _ _ _ (c .before .before .before .before .loop .inv .1) (omega arith) (omega arith) (bit-not-one _ (λ e. c .before .if1 .left (seen (c .before .before) ∙ e))))
@@ -95,11 +83,11 @@ read-spec =
     loop-holds
     bit-inside-requires
     (λ c. omega arith)
-    suffix-requires
+    (λ c κs. omega arith)
     returns
     returns-2
-    add-z
-    add-next
-    loop-less
+    (λ c. omega arith)
+    (λ c. omega arith)
+    (λ c. omega arith)
     loop-again
     returns-3)

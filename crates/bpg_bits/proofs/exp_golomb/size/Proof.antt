@@ -1,4 +1,4 @@
--- `exp_golomb::size` meets its contract. Assumes nothing.
+-- `exp_golomb::size` meets its contract.
 use Prim.Native.Nat.{_-_}
 use mathlib.Core.Path.{sym, ap}
 use native.Mathlib.Omega.{arith}
@@ -11,20 +11,11 @@ use Rattle.bpg_bits.proofs.exp_golomb.size.Tie as tie
 returns : tie.Need-returns
 returns c = sym (ap length (expGolomb-none (c .before .args .v) (omega arith)))
 
-add-result : tie.Need-add-result
-add-result c = search needs
-
 sub-result : tie.Need-sub-result
 sub-result c = top (c .before .args .v) (omega arith) .1
-
-mul-result : tie.Need-mul-result
-mul-result c = search needs
-
-add-result-2 : tie.Need-add-result-2
-add-result-2 c = search needs
 
 returns-2 : tie.Need-returns-2
 returns-2 c = sym (expGolomb-size (c .before .args .v) (omega arith))
 
 pub size-spec : {M : Type 1} → statement M
-size-spec = tie.close (tie.spec returns add-result sub-result mul-result add-result-2 returns-2)
+size-spec = tie.close (tie.spec returns (λ c. search needs) sub-result (λ c. search needs) (λ c. search needs) returns-2)

@@ -1,4 +1,4 @@
--- `file::canonicalize` meets its contract. Assumes nothing.
+-- `file::canonicalize` meets its contract.
 use mathlib.Core.Path.{ap, _∙_}
 use native.Mathlib.Omega.{arith}
 use Rattle.bpg_codec.proofs.Tokens.{all-bytes}
@@ -9,27 +9,12 @@ use borrow.Author.Needs.{needs}
 use Rattle.bpg_canonical.proofs.file.canonicalize.Statement.{statement}
 use Rattle.bpg_canonical.proofs.file.canonicalize.Tie as tie
 
-read-requires : tie.Need-read-requires
-read-requires c κs = search needs
-
-written-refused-requires : tie.Need-written-refused-requires
-written-refused-requires c κs = search needs
-
 returns : tie.Need-returns
 returns c =
     let r = c .before .before .before in
     let s = r .before .before .before in
     let a = refused (s .args .file .now) (s .args .out .now) (r .read .result) (r .read .ensures .0) (c .before .if1 .taken) in
     (c .written-refused .ensures ∙ a .0, a .1)
-
-canonical-requires : tie.Need-canonical-requires
-canonical-requires c κs = search needs
-
-write-requires : tie.Need-write-requires
-write-requires c κs = search needs
-
-same-length : tie.Need-same-length
-same-length c = search needs
 
 returns-2 : tie.Need-returns-2
 returns-2 c =
@@ -48,10 +33,10 @@ pub canonicalize-spec : {M : Type 1} → statement M
 canonicalize-spec =
     tie.close
     (tie.spec
-    read-requires
-    written-refused-requires
+    (λ c κs. search needs)
+    (λ c κs. search needs)
     returns
-    canonical-requires
-    write-requires
-    same-length
+    (λ c κs. search needs)
+    (λ c κs. search needs)
+    (λ c. search needs)
     returns-2)

@@ -1,4 +1,4 @@
--- `fields::add_flag` meets its contract. Assumes nothing.
+-- `fields::add_flag` meets its contract.
 use mathlib.Core.Path.{_≡_, refl, ap, _∙_}
 use mathlib.Core.Bool.{Bool, true, false}
 use mathlib.Core.List.{[], _∷_}
@@ -16,14 +16,8 @@ unfolding bits
 flag-bits true = refl
 flag-bits false = refl
 
-cast-append : tie.Need-cast-append
-cast-append c = search needs
-
-append-requires : tie.Need-append-requires
-append-requires c κs = search needs
-
 returns : tie.Need-returns
 returns c = added (c .append .ensures ∙ ap (appended (c .before .args .b)) (flag-bits (c .before .args .flag)))
 
 pub add-flag-spec : {M : Type 1} → statement M
-add-flag-spec = tie.close (tie.spec cast-append append-requires returns)
+add-flag-spec = tie.close (tie.spec (λ c. search needs) (λ c κs. search needs) returns)

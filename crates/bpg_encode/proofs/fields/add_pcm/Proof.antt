@@ -1,4 +1,4 @@
--- `fields::add_pcm` meets its contract. Assumes nothing.
+-- `fields::add_pcm` meets its contract.
 use borrow.Author.Needs.{needs}
 use borrow.Author.Tests.{not-true, not-false}
 use Rattle.bpg_encode.proofs.AddingLaws.{added, added-then, left-out, put-in}
@@ -7,27 +7,6 @@ use Rattle.bpg_encode.proofs.fields.add_pcm.Tie as tie
 
 returns : tie.Need-returns
 returns c = left-out _ (not-true _ (c .if1 .taken))
-
-cast-append : tie.Need-cast-append
-cast-append c = search needs
-
-append-requires : tie.Need-append-requires
-append-requires c κs = search needs
-
-cast-append-2 : tie.Need-cast-append-2
-cast-append-2 c = search needs
-
-append-requires-2 : tie.Need-append-requires-2
-append-requires-2 c κs = search needs
-
-append-exp-golomb-requires : tie.Need-append-exp-golomb-requires
-append-exp-golomb-requires c κs = search needs
-
-append-exp-golomb-requires-2 : tie.Need-append-exp-golomb-requires-2
-append-exp-golomb-requires-2 c κs = search needs
-
-add-flag-requires : tie.Need-add-flag-requires
-add-flag-requires c κs = search needs
 
 returns-2 : tie.Need-returns-2
 returns-2 c =
@@ -43,11 +22,11 @@ add-pcm-spec =
     tie.close
     (tie.spec
     returns
-    cast-append
-    append-requires
-    cast-append-2
-    append-requires-2
-    append-exp-golomb-requires
-    append-exp-golomb-requires-2
-    add-flag-requires
+    (λ c. search needs)
+    (λ c κs. search needs)
+    (λ c. search needs)
+    (λ c κs. search needs)
+    (λ c κs. search needs)
+    (λ c κs. search needs)
+    (λ c κs. search needs)
     returns-2)

@@ -1,4 +1,4 @@
--- `fields::add_sps` meets its contract. Assumes nothing.
+-- `fields::add_sps` meets its contract.
 use native.Mathlib.Omega.{arith}
 use borrow.Author.Needs.{needs}
 use borrow.Author.Tests.{not-true, not-false}
@@ -9,14 +9,8 @@ use Rattle.bpg_encode.proofs.fields.add_sps.Tie as tie
 returns : tie.Need-returns
 returns c = left-out _ (not-true _ (c .if1 .taken))
 
-add-flag-requires : tie.Need-add-flag-requires
-add-flag-requires c κs = search needs
-
 cast-append : tie.Need-cast-append
 cast-append c = omega (arith, c .struct-known2 .given)
-
-append-requires : tie.Need-append-requires
-append-requires c κs = search needs
 
 returns-2 : tie.Need-returns-2
 returns-2 c =
@@ -24,4 +18,4 @@ returns-2 c =
     put-in (not-false _ (range .before .if1 .left)) (added-then (range .add-flag .ensures) (added (c .append .ensures)))
 
 pub add-sps-spec : {M : Type 1} → statement M
-add-sps-spec = tie.close (tie.spec returns add-flag-requires cast-append append-requires returns-2)
+add-sps-spec = tie.close (tie.spec returns (λ c κs. search needs) cast-append (λ c κs. search needs) returns-2)

@@ -1,4 +1,4 @@
--- `header::encode` meets its contract: the groups of fields are added to an empty buffer, one after another. Assumes nothing.
+-- `header::encode` meets its contract: the groups of fields are added to an empty buffer, one after another.
 use mathlib.Core.Path.{_≡_}
 use native.Mathlib.Omega.{arith}
 use lib.ListN.{length}
@@ -12,33 +12,6 @@ use Rattle.bpg_encode.proofs.header.encode.Tie as tie
 -- the array has nine flags
 nine : (c : tie.Start) → length (c .args .header .«range_flags») ≡ 9
 nine c = search flags-count
-
-empty-requires : tie.Need-empty-requires
-empty-requires c κs = search needs
-
-add-sizes-requires : tie.Need-add-sizes-requires
-add-sizes-requires c κs = search needs
-
-add-flag-requires : tie.Need-add-flag-requires
-add-flag-requires c κs = search needs
-
-add-flag-requires-2 : tie.Need-add-flag-requires-2
-add-flag-requires-2 c κs = search needs
-
-add-pcm-requires : tie.Need-add-pcm-requires
-add-pcm-requires c κs = search needs
-
-add-flag-requires-3 : tie.Need-add-flag-requires-3
-add-flag-requires-3 c κs = search needs
-
-add-flag-requires-4 : tie.Need-add-flag-requires-4
-add-flag-requires-4 c κs = search needs
-
-add-sps-requires : tie.Need-add-sps-requires
-add-sps-requires c κs = search needs
-
-add-requires : tie.Need-add-requires
-add-requires c κs = search needs
 
 returns : tie.Need-returns
 returns c =
@@ -60,13 +33,13 @@ pub encode-spec : {M : Type 1} → statement M
 encode-spec =
     tie.close
     (tie.spec
-    empty-requires
-    add-sizes-requires
-    add-flag-requires
-    add-flag-requires-2
-    add-pcm-requires
-    add-flag-requires-3
-    add-flag-requires-4
-    add-sps-requires
-    add-requires
+    (λ c κs. search needs)
+    (λ c κs. search needs)
+    (λ c κs. search needs)
+    (λ c κs. search needs)
+    (λ c κs. search needs)
+    (λ c κs. search needs)
+    (λ c κs. search needs)
+    (λ c κs. search needs)
+    (λ c κs. search needs)
     returns)

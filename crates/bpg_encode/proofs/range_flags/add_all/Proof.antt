@@ -1,4 +1,4 @@
--- `range_flags::add_all` meets its contract. The invariant: the flags up to k are added. Assumes nothing.
+-- `range_flags::add_all` meets its contract. The invariant: the flags up to k are added.
 use mathlib.Core.Path.{_≡_}
 use mathlib.Core.Bool.{Bool, false}
 use mathlib.Core.List.{List, [], _∷_}
@@ -32,18 +32,6 @@ more flags k h p q = let n : k + 1 ≡ suc k = omega arith in rw (n, take-suc fl
 loop-holds : tie.Need-loop-holds Inv-loop μ-loop
 loop-holds c = (omega arith, added-nothing _)
 
-element-copy-out-add-flag : tie.Need-element-copy-out-add-flag Inv-loop μ-loop
-element-copy-out-add-flag c = search needs
-
-add-flag-requires : tie.Need-add-flag-requires Inv-loop μ-loop
-add-flag-requires c κs = search needs
-
-add-k : tie.Need-add-k Inv-loop μ-loop
-add-k c = search needs
-
-loop-less : tie.Need-loop-less Inv-loop μ-loop
-loop-less c = search needs
-
 loop-again : tie.Need-loop-again Inv-loop μ-loop
 loop-again c =
     let l = c .before .before .before .loop in
@@ -61,9 +49,9 @@ add-all-spec =
     Inv-loop
     μ-loop
     loop-holds
-    element-copy-out-add-flag
-    add-flag-requires
-    add-k
-    loop-less
+    (λ c. search needs)
+    (λ c κs. search needs)
+    (λ c. search needs)
+    (λ c. search needs)
     loop-again
     returns)

@@ -1,4 +1,4 @@
--- `block::read` meets its contract. The invariant is `Reading`: the entries so far stand in the block. Assumes nothing.
+-- `block::read` meets its contract. The invariant is `Reading`: the entries so far stand in the block.
 use mathlib.Core.Path.{_≡_, sym, ap, _∙_, subst}
 use mathlib.Core.Bool.{Bool, false}
 use mathlib.Core.List.{List}
@@ -36,17 +36,8 @@ Inv-loop region entries₀ entry-count₀ animated₀ animation₀ next₀ entri
 abbrev μ-loop : tie.MeasureT-loop
 μ-loop region entries₀ entry-count₀ animated₀ animation₀ next₀ entries entry-count animated animation next = maxEntries - entry-count
 
-refused-requires : tie.Need-refused-requires Inv-loop μ-loop
-refused-requires c κs = search needs
-
 returns : tie.Need-returns Inv-loop μ-loop
 returns c = c .refused .ensures ∙ too-long _ _ (c .before .if1 .taken)
-
-zero-entry-requires : tie.Need-zero-entry-requires Inv-loop μ-loop
-zero-entry-requires c κs = search needs
-
-none-requires : tie.Need-none-requires Inv-loop μ-loop
-none-requires c κs = search needs
 
 loop-holds : tie.Need-loop-holds Inv-loop μ-loop
 loop-holds c =
@@ -78,19 +69,10 @@ module _ (c : tie.At-loop Inv-loop μ-loop) where
 cast-if2 : tie.Need-cast-if2 Inv-loop μ-loop
 cast-if2 c = let l = c .before in omega (arith, count-most _ _ (block l) _ (l .loop .inv))
 
-refused-requires-2 : tie.Need-refused-requires-2 Inv-loop μ-loop
-refused-requires-2 c κs = search needs
-
 returns-2 : tie.Need-returns-2 Inv-loop μ-loop
 returns-2 c =
     let l = c .before .before .before in
     c .refused2 .ensures ∙ full _ _ (block l) _ (l .loop .inv) (c .before .before .loop-test .taken) (c .before .if2 .taken) ∙ ap (blockAnswer (at l)) (short l)
-
-read-requires : tie.Need-read-requires Inv-loop μ-loop
-read-requires c κs = search needs
-
-refused-requires-3 : tie.Need-refused-requires-3 Inv-loop μ-loop
-refused-requires-3 c κs = search needs
 
 -- the step
 module _ (c : tie.After-read Inv-loop μ-loop) where
@@ -111,18 +93,6 @@ returns-3 c =
     let r = c .before .before .before in
     c .refused3 .ensures ∙ ends-with r _ _ (step-refused _ _ _ (step r) (r .read .ensures) (c .before .if3 .taken))
 
-cast-entries : tie.Need-cast-entries Inv-loop μ-loop
-cast-entries c = search needs
-
-mul-entries : tie.Need-mul-entries Inv-loop μ-loop
-mul-entries c = search needs
-
-array-set-from-entries : tie.Need-array-set-from-entries Inv-loop μ-loop
-array-set-from-entries c = search needs
-
-add-entry-count : tie.Need-add-entry-count Inv-loop μ-loop
-add-entry-count c = search needs
-
 -- the entry was found and stored
 module _ (c : tie.After-struct-known2 Inv-loop μ-loop) where
   abbrev read : tie.After-read Inv-loop μ-loop
@@ -136,9 +106,6 @@ module _ (c : tie.After-struct-known2 Inv-loop μ-loop) where
 
 control-requires : tie.Need-control-requires Inv-loop μ-loop
 control-requires c κs = here (c .before) .inside
-
-refused-requires-4 : tie.Need-refused-requires-4 Inv-loop μ-loop
-refused-requires-4 c κs = search needs
 
 returns-4 : tie.Need-returns-4 Inv-loop μ-loop
 returns-4 c =
@@ -181,23 +148,23 @@ read-spec =
     (tie.spec
     Inv-loop
     μ-loop
-    refused-requires
+    (λ c κs. search needs)
     returns
-    zero-entry-requires
-    none-requires
+    (λ c κs. search needs)
+    (λ c κs. search needs)
     loop-holds
     cast-if2
-    refused-requires-2
+    (λ c κs. search needs)
     returns-2
-    read-requires
-    refused-requires-3
+    (λ c κs. search needs)
+    (λ c κs. search needs)
     returns-3
-    cast-entries
-    mul-entries
-    array-set-from-entries
-    add-entry-count
+    (λ c. search needs)
+    (λ c. search needs)
+    (λ c. search needs)
+    (λ c. search needs)
     control-requires
-    refused-requires-4
+    (λ c κs. search needs)
     returns-4
     loop-less
     loop-again

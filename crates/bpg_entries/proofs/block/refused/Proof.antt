@@ -1,4 +1,4 @@
--- `block::refused` meets its contract. Assumes nothing.
+-- `block::refused` meets its contract.
 use borrow.Author.Needs.{needs}
 use Rattle.bpg_entries.proofs.block.refused.Statement.{statement}
 use Rattle.bpg_entries.proofs.block.refused.Tie as tie

@@ -1,4 +1,4 @@
--- `entry::read` meets its contract: each way out is a case of how an entry starts. Assumes nothing.
+-- `entry::read` meets its contract: each way out is a case of how an entry starts.
 use mathlib.Core.Path.{_≡_, _∙_}
 use mathlib.Core.List.{List}
 use Prim.Native.Nat.{ℕ, _≤_}
@@ -13,30 +13,6 @@ use Rattle.bpg_numbers.proofs.ReadAt.{value-read, refusal-read}
 use Rattle.bpg_entries.proofs.EntryLaws.{tag-refused, size-refused, too-long, started}
 use Rattle.bpg_entries.proofs.entry.read.Statement.{statement}
 use Rattle.bpg_entries.proofs.entry.read.Tie as tie
-
-read-requires : tie.Need-read-requires
-read-requires c κs = search needs
-
-enum-known-status : tie.Need-enum-known-status
-enum-known-status c = search needs
-
-refused-requires : tie.Need-refused-requires
-refused-requires c κs = search needs
-
-enum-known-tag : tie.Need-enum-known-tag
-enum-known-tag c = search needs
-
-read-requires-2 : tie.Need-read-requires-2
-read-requires-2 c κs = search needs
-
-enum-known-status-2 : tie.Need-enum-known-status-2
-enum-known-status-2 c = search needs
-
-refused-requires-2 : tie.Need-refused-requires-2
-refused-requires-2 c κs = search needs
-
-enum-known-size : tie.Need-enum-known-size
-enum-known-size c = search needs
 
 -- the tag was read
 module _ (c : tie.After-known-told2) where
@@ -82,12 +58,6 @@ module _ (c : tie.After-known-told4) where
 sub-if1 : tie.Need-sub-if1
 sub-if1 c = inside (c .before)
 
-cast-if1 : tie.Need-cast-if1
-cast-if1 c = search needs
-
-refused-requires-3 : tie.Need-refused-requires-3
-refused-requires-3 c κs = search needs
-
 returns : tie.Need-returns
 returns c =
     let d = c .before .before .before in
@@ -123,17 +93,17 @@ pub read-spec : {M : Type 1} → statement M
 read-spec =
     tie.close
     (tie.spec
-    read-requires
-    enum-known-status
-    refused-requires
-    enum-known-tag
-    read-requires-2
-    enum-known-status-2
-    refused-requires-2
-    enum-known-size
+    (λ c κs. search needs)
+    (λ c. search needs)
+    (λ c κs. search needs)
+    (λ c. search needs)
+    (λ c κs. search needs)
+    (λ c. search needs)
+    (λ c κs. search needs)
+    (λ c. search needs)
     sub-if1
-    cast-if1
-    refused-requires-3
+    (λ c. search needs)
+    (λ c κs. search needs)
     returns
     found-requires
     returns-2

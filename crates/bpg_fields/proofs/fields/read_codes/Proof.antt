@@ -1,4 +1,4 @@
--- `fields::read_codes` meets its contract: one after the other. Assumes nothing.
+-- `fields::read_codes` meets its contract: one after the other.
 use mathlib.Core.Path.{_≡_}
 use mathlib.Core.Bool.{Bool}
 use mathlib.Core.List.{List}
@@ -11,24 +11,6 @@ use Rattle.bpg_fields.proofs.FieldLaws.{codes-at}
 use borrow.Author.Needs.{needs}
 use Rattle.bpg_fields.proofs.fields.read_codes.Statement.{statement}
 use Rattle.bpg_fields.proofs.fields.read_codes.Tie as tie
-
-read-requires : tie.Need-read-requires
-read-requires c κs = search needs
-
-enum-told : tie.Need-enum-told
-enum-told c = search needs
-
-enum-known-least : tie.Need-enum-known-least
-enum-known-least c = search needs
-
-read-requires-2 : tie.Need-read-requires-2
-read-requires-2 c κs = search needs
-
-enum-told-2 : tie.Need-enum-told-2
-enum-told-2 c = search needs
-
-enum-known-diff : tie.Need-enum-known-diff
-enum-known-diff c = search needs
 
 -- the first was read
 module _ (c : tie.After-known-told) where
@@ -57,12 +39,12 @@ pub read-codes-spec : {M : Type 1} → statement M
 read-codes-spec =
     tie.close
     (tie.spec
-    read-requires
-    enum-told
-    enum-known-least
-    read-requires-2
-    enum-told-2
-    enum-known-diff
+    (λ c κs. search needs)
+    (λ c. search needs)
+    (λ c. search needs)
+    (λ c κs. search needs)
+    (λ c. search needs)
+    (λ c. search needs)
     returns
     returns-2
     returns-3)

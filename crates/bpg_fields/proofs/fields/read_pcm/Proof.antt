@@ -1,4 +1,4 @@
--- `fields::read_pcm` meets its contract: two pairs, and the field after them. Assumes nothing.
+-- `fields::read_pcm` meets its contract: two pairs, and the field after them.
 use mathlib.Core.Path.{_≡_, sym, ap, _∙_}
 use mathlib.Core.Bool.{Bool}
 use mathlib.Core.List.{List}
@@ -11,33 +11,6 @@ use Rattle.bpg_fields.proofs.FieldLaws.{pcm-at}
 use borrow.Author.Needs.{needs}
 use Rattle.bpg_fields.proofs.fields.read_pcm.Statement.{statement}
 use Rattle.bpg_fields.proofs.fields.read_pcm.Tie as tie
-
-read-depths-requires : tie.Need-read-depths-requires
-read-depths-requires c κs = search needs
-
-enum-told : tie.Need-enum-told
-enum-told c = search needs
-
-enum-known-luma : tie.Need-enum-known-luma
-enum-known-luma c = search needs
-
-read-codes-requires : tie.Need-read-codes-requires
-read-codes-requires c κs = search needs
-
-enum-told-2 : tie.Need-enum-told-2
-enum-told-2 c = search needs
-
-enum-known-least : tie.Need-enum-known-least
-enum-known-least c = search needs
-
-read-flag-requires : tie.Need-read-flag-requires
-read-flag-requires c κs = search needs
-
-enum-told-3 : tie.Need-enum-told-3
-enum-told-3 c = search needs
-
-enum-known-filter : tie.Need-enum-known-filter
-enum-known-filter c = search needs
 
 -- the first pair was read
 module _ (c : tie.After-known-told) where
@@ -88,15 +61,15 @@ pub read-pcm-spec : {M : Type 1} → statement M
 read-pcm-spec =
     tie.close
     (tie.spec
-    read-depths-requires
-    enum-told
-    enum-known-luma
-    read-codes-requires
-    enum-told-2
-    enum-known-least
-    read-flag-requires
-    enum-told-3
-    enum-known-filter
+    (λ c κs. search needs)
+    (λ c. search needs)
+    (λ c. search needs)
+    (λ c κs. search needs)
+    (λ c. search needs)
+    (λ c. search needs)
+    (λ c κs. search needs)
+    (λ c. search needs)
+    (λ c. search needs)
     returns
     returns-2
     returns-3

@@ -1,4 +1,4 @@
--- `fields::read_sizes` meets its contract: two pairs, and the field after them. Assumes nothing.
+-- `fields::read_sizes` meets its contract: two pairs, and the field after them.
 use mathlib.Core.Path.{_≡_, sym, ap, _∙_}
 use mathlib.Core.Bool.{Bool}
 use mathlib.Core.List.{List}
@@ -12,33 +12,6 @@ use Rattle.bpg_fields.proofs.FieldLaws.{sizes-at}
 use borrow.Author.Needs.{needs}
 use Rattle.bpg_fields.proofs.fields.read_sizes.Statement.{statement}
 use Rattle.bpg_fields.proofs.fields.read_sizes.Tie as tie
-
-read-codes-requires : tie.Need-read-codes-requires
-read-codes-requires c κs = search needs
-
-enum-told : tie.Need-enum-told
-enum-told c = search needs
-
-enum-known-min-cb : tie.Need-enum-known-min-cb
-enum-known-min-cb c = search needs
-
-read-codes-requires-2 : tie.Need-read-codes-requires-2
-read-codes-requires-2 c κs = search needs
-
-enum-told-2 : tie.Need-enum-told-2
-enum-told-2 c = search needs
-
-enum-known-min-tb : tie.Need-enum-known-min-tb
-enum-known-min-tb c = search needs
-
-read-requires : tie.Need-read-requires
-read-requires c κs = search needs
-
-enum-told-3 : tie.Need-enum-told-3
-enum-told-3 c = search needs
-
-enum-known-depth : tie.Need-enum-known-depth
-enum-known-depth c = search needs
 
 -- the first pair was read
 module _ (c : tie.After-known-told) where
@@ -89,15 +62,15 @@ pub read-sizes-spec : {M : Type 1} → statement M
 read-sizes-spec =
     tie.close
     (tie.spec
-    read-codes-requires
-    enum-told
-    enum-known-min-cb
-    read-codes-requires-2
-    enum-told-2
-    enum-known-min-tb
-    read-requires
-    enum-told-3
-    enum-known-depth
+    (λ c κs. search needs)
+    (λ c. search needs)
+    (λ c. search needs)
+    (λ c κs. search needs)
+    (λ c. search needs)
+    (λ c. search needs)
+    (λ c κs. search needs)
+    (λ c. search needs)
+    (λ c. search needs)
     returns
     returns-2
     returns-3

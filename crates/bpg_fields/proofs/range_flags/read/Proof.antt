@@ -1,4 +1,4 @@
--- `range_flags::read` meets its contract: nine bits as a number, or nothing. Assumes nothing.
+-- `range_flags::read` meets its contract: nine bits as a number, or nothing.
 use mathlib.Core.Path.{refl, sym, ap, _∙_}
 use mathlib.Core.Bool.{Bool, false}
 use mathlib.Core.List.{List}
@@ -15,9 +15,6 @@ use borrow.Author.Needs.{needs}
 use Rattle.bpg_fields.proofs.range_flags.read.Statement.{statement}
 use Rattle.bpg_fields.proofs.range_flags.read.Tie as tie
 
-read-requires : tie.Need-read-requires
-read-requires c κs = search needs
-
 returns : tie.Need-returns
 returns c =
     λ i.
@@ -31,4 +28,4 @@ returns-2 c =
     ap (λ (l : List Bool). ok (l, p)) (bits-zero 9) ∙ absent-at _ i p _ (fixed Bit 9 15 atItem) (replicate 9 false) (c .if1 .left)
 
 pub read-spec : {M : Type 1} → statement M
-read-spec = tie.close (tie.spec read-requires returns returns-2)
+read-spec = tie.close (tie.spec (λ c κs. search needs) returns returns-2)

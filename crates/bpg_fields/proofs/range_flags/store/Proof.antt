@@ -1,4 +1,4 @@
--- `range_flags::store` meets its contract: the flags up to k are the number's bits up to k. Assumes nothing.
+-- `range_flags::store` meets its contract: the flags up to k are the number's bits up to k.
 use mathlib.Core.Path.{_≡_, refl, sym, ap, _∙_}
 use mathlib.Core.Bool.{Bool, false}
 use mathlib.Core.List.{List}
@@ -33,24 +33,6 @@ all value k flags h l e = sym (take-all k flags (omega arith)) ∙ e ∙ take-al
 loop-holds : tie.Need-loop-holds Inv-loop μ-loop
 loop-holds c = (omega arith, refl, refl)
 
-sub-flags : tie.Need-sub-flags Inv-loop μ-loop
-sub-flags c = search needs
-
-cast-flags : tie.Need-cast-flags Inv-loop μ-loop
-cast-flags c = search needs
-
-shr-flags : tie.Need-shr-flags Inv-loop μ-loop
-shr-flags c = search needs
-
-array-write-flags : tie.Need-array-write-flags Inv-loop μ-loop
-array-write-flags c = search needs
-
-add-k : tie.Need-add-k Inv-loop μ-loop
-add-k c = search needs
-
-loop-less : tie.Need-loop-less Inv-loop μ-loop
-loop-less c = search needs
-
 loop-again : tie.Need-loop-again Inv-loop μ-loop
 loop-again c =
     let l = c .before .loop in
@@ -69,11 +51,11 @@ store-spec =
     Inv-loop
     μ-loop
     loop-holds
-    sub-flags
-    cast-flags
-    shr-flags
-    array-write-flags
-    add-k
-    loop-less
+    (λ c. search needs)
+    (λ c. search needs)
+    (λ c. search needs)
+    (λ c. search needs)
+    (λ c. search needs)
+    (λ c. search needs)
     loop-again
     returns)

@@ -1,4 +1,4 @@
--- `sizes::code_at` meets its contract: a code with at most 31 zero bits that ends in the word is shown whole. Assumes nothing.
+-- `sizes::code_at` meets its contract: a code with at most 31 zero bits that ends in the word is shown whole.
 use mathlib.Core.Path.{refl}
 use Prim.Native.Nat.{ℕ, _*_, _%_, _^_, _≤_, _<_}
 use native.Mathlib.Omega.{arith}
@@ -25,35 +25,14 @@ module _ (c : tie.Else2) where
 returns : tie.Need-returns
 returns c = λ h. absurd (omega arith)
 
-shl-shown : tie.Need-shl-shown
-shl-shown c = search needs
-
 returns-2 : tie.Need-returns-2
 returns-2 c = λ h. absurd (omega arith)
-
-mul-size : tie.Need-mul-size
-mul-size c = search needs
-
-add-size : tie.Need-add-size
-add-size c = search needs
-
-sub-t8 : tie.Need-sub-t8
-sub-t8 c = search needs
-
-cast-t7 : tie.Need-cast-t7
-cast-t7 c = search needs
-
-shr-t9 : tie.Need-shr-t9
-shr-t9 c = search needs
 
 sub-t10 : tie.Need-sub-t10
 sub-t10 c = omega (arith, some c)
 
 cast-t11 : tie.Need-cast-t11
 cast-t11 c = omega (arith, plusOne-small (moved c) (small c) (few c))
-
-add-t12 : tie.Need-add-t12
-add-t12 c = search needs
 
 returns-3 : tie.Need-returns-3
 returns-3 c = λ h. shown _ _ _ (small c) (few c) h (omega (arith, some c)) refl
@@ -63,14 +42,14 @@ code-at-spec =
     tie.close
     (tie.spec
     returns
-    shl-shown
+    (λ c. search needs)
     returns-2
-    mul-size
-    add-size
-    sub-t8
-    cast-t7
-    shr-t9
+    (λ c. search needs)
+    (λ c. search needs)
+    (λ c. search needs)
+    (λ c. search needs)
+    (λ c. search needs)
     sub-t10
     cast-t11
-    add-t12
+    (λ c. search needs)
     returns-3)

@@ -43,40 +43,13 @@ module _ (c : tie.After-wide Inv-loop μ-loop) where
       let e : c .wide .result ≡ getD left k 0 = c .wide .ensures ∙ sym (getD-drop start region k 0 ∙ rw at) in
       next-byte left k (loop .loop .free) (c .wide .result) (loop .loop .word) inside e (omega (arith, c .before .shared-slice-known2 .given (loop .loop .next))) (omega arith) (omega arith) (loop .loop .inv .3)
 
-add-least : tie.Need-add-least Inv-loop μ-loop
-add-least c = omega arith
-
-least-requires : tie.Need-least-requires Inv-loop μ-loop
-least-requires c κs = search needs
-
 loop-holds : tie.Need-loop-holds Inv-loop μ-loop
 loop-holds c =
     let e : c .before .before .args .at .0 - c .before .before .args .at .0 ≡ 0 = omega arith in
     (omega arith, omega arith, omega arith, rw (e, no-bytes))
 
-sub-free : tie.Need-sub-free Inv-loop μ-loop
-sub-free c = omega arith
-
-shared-slice-read-wide : tie.Need-shared-slice-read-wide Inv-loop μ-loop
-shared-slice-read-wide c = omega arith
-
-wide-requires : tie.Need-wide-requires Inv-loop μ-loop
-wide-requires c κs = search needs
-
-cast-word : tie.Need-cast-word Inv-loop μ-loop
-cast-word c = omega arith
-
-shl-word : tie.Need-shl-word Inv-loop μ-loop
-shl-word c = omega arith
-
 add-word : tie.Need-add-word Inv-loop μ-loop
 add-word c = omega (arith, more c, fits (left c) (suc (k c)) (loop c .loop .free - 8) (omega arith) (inside c))
-
-add-next : tie.Need-add-next Inv-loop μ-loop
-add-next c = omega arith
-
-loop-less : tie.Need-loop-less Inv-loop μ-loop
-loop-less c = omega arith
 
 loop-again : tie.Need-loop-again Inv-loop μ-loop
 loop-again c =
@@ -95,16 +68,16 @@ word-at-spec =
     (tie.spec
     Inv-loop
     μ-loop
-    add-least
-    least-requires
+    (λ c. omega arith)
+    (λ c κs. search needs)
     loop-holds
-    sub-free
-    shared-slice-read-wide
-    wide-requires
-    cast-word
-    shl-word
+    (λ c. omega arith)
+    (λ c. omega arith)
+    (λ c κs. search needs)
+    (λ c. omega arith)
+    (λ c. omega arith)
     add-word
-    add-next
-    loop-less
+    (λ c. omega arith)
+    (λ c. omega arith)
     loop-again
     returns)

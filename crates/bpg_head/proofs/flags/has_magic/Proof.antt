@@ -1,17 +1,11 @@
--- `flags::has_magic` meets its contract. Assumes nothing.
+-- `flags::has_magic` meets its contract.
 use borrow.Author.Needs.{needs}
 use Rattle.bpg_head.proofs.FlagLaws.{not-first, not-second, not-third, all-but-last}
 use Rattle.bpg_head.proofs.flags.has_magic.Statement.{statement}
 use Rattle.bpg_head.proofs.flags.has_magic.Tie as tie
 
-shared-slice-read-if1 : tie.Need-shared-slice-read-if1
-shared-slice-read-if1 c = search needs
-
 returns : tie.Need-returns
 returns c = let a = c .before .before in not-first (a .args .file .now) (a .pre) (c .if1 .taken)
-
-shared-slice-read-if2 : tie.Need-shared-slice-read-if2
-shared-slice-read-if2 c = search needs
 
 returns-2 : tie.Need-returns-2
 returns-2 c =
@@ -19,18 +13,12 @@ returns-2 c =
     let a = d .before .before in
     not-second (a .args .file .now) (a .pre) (d .if1 .left) (c .if2 .taken)
 
-shared-slice-read-if3 : tie.Need-shared-slice-read-if3
-shared-slice-read-if3 c = search needs
-
 returns-3 : tie.Need-returns-3
 returns-3 c =
     let e = c .before .before in
     let d = e .before .before in
     let a = d .before .before in
     not-third (a .args .file .now) (a .pre) (d .if1 .left) (e .if2 .left) (c .if3 .taken)
-
-shared-slice-read-result : tie.Need-shared-slice-read-result
-shared-slice-read-result c = search needs
 
 returns-4 : tie.Need-returns-4
 returns-4 c =
@@ -44,11 +32,11 @@ pub has-magic-spec : {M : Type 1} → statement M
 has-magic-spec =
     tie.close
     (tie.spec
-    shared-slice-read-if1
+    (λ c. search needs)
     returns
-    shared-slice-read-if2
+    (λ c. search needs)
     returns-2
-    shared-slice-read-if3
+    (λ c. search needs)
     returns-3
-    shared-slice-read-result
+    (λ c. search needs)
     returns-4)

@@ -64,46 +64,16 @@ module _ (c : tie.Else2) where
       ap (λ (n : ℕ). length (take n (file sized-at))) (whole-size sized-at)
       ∙ length-take-le (start sized-at + size sized-at) (file sized-at) enough
 
-refused-requires : tie.Need-refused-requires
-refused-requires c κs = search needs
-
 returns : tie.Need-returns
 returns c = c .refused .ensures ∙ file-long _ _ _ (c .before .if1 .taken)
 
-read-requires : tie.Need-read-requires
-read-requires c κs = search needs
-
-enum-known-status : tie.Need-enum-known-status
-enum-known-status c = search needs
-
-refused-requires-2 : tie.Need-refused-requires-2
-refused-requires-2 c κs = search needs
-
-enum-known-size : tie.Need-enum-known-size
-enum-known-size c = search needs
-
-cast-length : tie.Need-cast-length
-cast-length c = search needs
-
 sub-if2 : tie.Need-sub-if2
 sub-if2 c = inside (c .before)
-
-refused-requires-3 : tie.Need-refused-requires-3
-refused-requires-3 c κs = search needs
 
 returns-2 : tie.Need-returns-2
 returns-2 c =
     let k = c .before .before .before in
     c .refused3 .ensures ∙ too-large (file k) (depth k) (at k) (short k) (size k) (start k) (size-is k) (omega (arith, c .before .if2 .taken, inside k))
-
-add-with-size : tie.Need-add-with-size
-add-with-size c = search needs
-
-sub-with-size : tie.Need-sub-with-size
-sub-with-size c = search needs
-
-part-with-size-start : tie.Need-part-with-size-start
-part-with-size-start c = search needs
 
 part-with-size-end : tie.Need-part-with-size-end
 part-with-size-end c = let k = c .before .before .before in omega (arith, c .before .if2 .left, inside k)
@@ -131,19 +101,19 @@ pub read-spec : {M : Type 1} → statement M
 read-spec =
     tie.close
     (tie.spec
-    refused-requires
+    (λ c κs. search needs)
     returns
-    read-requires
-    enum-known-status
-    refused-requires-2
-    enum-known-size
-    cast-length
+    (λ c κs. search needs)
+    (λ c. search needs)
+    (λ c κs. search needs)
+    (λ c. search needs)
+    (λ c. search needs)
     sub-if2
-    refused-requires-3
+    (λ c κs. search needs)
     returns-2
-    add-with-size
-    sub-with-size
-    part-with-size-start
+    (λ c. search needs)
+    (λ c. search needs)
+    (λ c. search needs)
     part-with-size-end
     with-size-requires
     returns-3

@@ -1,4 +1,4 @@
--- `header::refused` meets its contract. Assumes nothing.
+-- `header::refused` meets its contract.
 use mathlib.Core.Path.{ap}
 use Rattle.bpg_bytes.specs.Positions.{bytePos}
 use Rattle.bpg_format.specs.declared.record.Header.{Header}
@@ -6,11 +6,8 @@ use borrow.Author.Needs.{needs}
 use Rattle.bpg_header.proofs.header.refused.Statement.{statement}
 use Rattle.bpg_header.proofs.header.refused.Tie as tie
 
-zero-header-requires : tie.Need-zero-header-requires
-zero-header-requires c κs = search needs
-
 returns : tie.Need-returns
 returns c = ap (λ (h : Header). record { status = c .before .args .status; offset = c .before .args .offset; header = h; next = bytePos 0 }) (c .zero-header .ensures)
 
 pub refused-spec : {M : Type 1} → statement M
-refused-spec = tie.close (tie.spec zero-header-requires returns)
+refused-spec = tie.close (tie.spec (λ c κs. search needs) returns)

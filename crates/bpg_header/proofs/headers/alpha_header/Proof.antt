@@ -1,4 +1,4 @@
--- `headers::alpha_header` meets its contract. Assumes nothing.
+-- `headers::alpha_header` meets its contract.
 use mathlib.Core.Path.{ap, _∙_}
 use Rattle.bpg_bytes.specs.Positions.{bytePos}
 use Rattle.bpg_format.specs.declared.record.Header.{Header}
@@ -7,14 +7,8 @@ use borrow.Author.Needs.{needs}
 use Rattle.bpg_header.proofs.headers.alpha_header.Statement.{statement}
 use Rattle.bpg_header.proofs.headers.alpha_header.Tie as tie
 
-read-requires : tie.Need-read-requires
-read-requires c κs = search needs
-
 returns : tie.Need-returns
 returns c = c .read .ensures ∙ alpha-present _ _ _ _ (c .before .if1 .taken)
-
-zero-header-requires : tie.Need-zero-header-requires
-zero-header-requires c κs = search needs
 
 returns-2 : tie.Need-returns-2
 returns-2 c =
@@ -22,4 +16,4 @@ returns-2 c =
     ∙ alpha-absent _ _ _ _ (c .before .if1 .left)
 
 pub alpha-header-spec : {M : Type 1} → statement M
-alpha-header-spec = tie.close (tie.spec read-requires returns zero-header-requires returns-2)
+alpha-header-spec = tie.close (tie.spec (λ c κs. search needs) returns (λ c κs. search needs) returns-2)

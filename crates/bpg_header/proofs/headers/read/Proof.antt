@@ -1,26 +1,14 @@
--- `headers::read` meets its contract. Assumes nothing.
+-- `headers::read` meets its contract.
 use mathlib.Core.Path.{_∙_}
 use Rattle.bpg_header.proofs.BothHeaderLaws.{alpha-refused, color-refused, both-read}
 use borrow.Author.Needs.{needs}
 use Rattle.bpg_header.proofs.headers.read.Statement.{statement}
 use Rattle.bpg_header.proofs.headers.read.Tie as tie
 
-alpha-header-requires : tie.Need-alpha-header-requires
-alpha-header-requires c κs = search needs
-
-refused-requires : tie.Need-refused-requires
-refused-requires c κs = search needs
-
 returns : tie.Need-returns
 returns c =
     let a = c .before .before .before in
     c .refused .ensures ∙ alpha-refused _ _ _ _ (a .alpha-header .result) (a .alpha-header .ensures) (c .before .if1 .taken)
-
-read-requires : tie.Need-read-requires
-read-requires c κs = search needs
-
-refused-requires-2 : tie.Need-refused-requires-2
-refused-requires-2 c κs = search needs
 
 returns-2 : tie.Need-returns-2
 returns-2 c =
@@ -39,10 +27,10 @@ pub read-spec : {M : Type 1} → statement M
 read-spec =
     tie.close
     (tie.spec
-    alpha-header-requires
-    refused-requires
+    (λ c κs. search needs)
+    (λ c κs. search needs)
     returns
-    read-requires
-    refused-requires-2
+    (λ c κs. search needs)
+    (λ c κs. search needs)
     returns-2
     returns-3)

@@ -1,4 +1,4 @@
--- `line::accepted` meets its contract: the parts are gathered one after the other, and the whole fits. Assumes nothing.
+-- `line::accepted` meets its contract: the parts are gathered one after the other, and the whole fits.
 use Prim.Native.Nat.{_+_}
 use native.Mathlib.Omega.{arith}
 use borrow.Author.Needs.{needs}
@@ -14,89 +14,11 @@ use Rattle.bpg_line.proofs.line.accepted.Tie as tie
 abbrev given : tie.After-append-animation → Record
 given c = c .before .before .before .before .before .before .before .before .before .before .before .before .before .before .before .before .before .before .before .args .«record»
 
-empty-requires : tie.Need-empty-requires
-empty-requires c κs = search needs
-
-slice-aggregate-append-labelled : tie.Need-slice-aggregate-append-labelled
-slice-aggregate-append-labelled c = search needs
-
-cast-append-labelled : tie.Need-cast-append-labelled
-cast-append-labelled c = search needs
-
-append-labelled-requires : tie.Need-append-labelled-requires
-append-labelled-requires c κs = search needs
-
-slice-aggregate-append-labelled-2 : tie.Need-slice-aggregate-append-labelled-2
-slice-aggregate-append-labelled-2 c = search needs
-
-cast-append-labelled-2 : tie.Need-cast-append-labelled-2
-cast-append-labelled-2 c = search needs
-
-append-labelled-requires-2 : tie.Need-append-labelled-requires-2
-append-labelled-requires-2 c κs = search needs
-
-slice-aggregate-append-labelled-3 : tie.Need-slice-aggregate-append-labelled-3
-slice-aggregate-append-labelled-3 c = search needs
-
-cast-append-labelled-3 : tie.Need-cast-append-labelled-3
-cast-append-labelled-3 c = search needs
-
-append-labelled-requires-3 : tie.Need-append-labelled-requires-3
-append-labelled-requires-3 c κs = search needs
-
-slice-aggregate-append-labelled-4 : tie.Need-slice-aggregate-append-labelled-4
-slice-aggregate-append-labelled-4 c = search needs
-
-cast-append-labelled-4 : tie.Need-cast-append-labelled-4
-cast-append-labelled-4 c = search needs
-
-add-append-labelled : tie.Need-add-append-labelled
-add-append-labelled c = search needs
-
-append-labelled-requires-4 : tie.Need-append-labelled-requires-4
-append-labelled-requires-4 c κs = search needs
-
-slice-aggregate-append-labelled-5 : tie.Need-slice-aggregate-append-labelled-5
-slice-aggregate-append-labelled-5 c = search needs
-
-cast-append-labelled-5 : tie.Need-cast-append-labelled-5
-cast-append-labelled-5 c = search needs
-
-append-labelled-requires-5 : tie.Need-append-labelled-requires-5
-append-labelled-requires-5 c κs = search needs
-
-append-alpha-requires : tie.Need-append-alpha-requires
-append-alpha-requires c κs = search needs
-
-append-range-requires : tie.Need-append-range-requires
-append-range-requires c κs = search needs
-
-append-animation-requires : tie.Need-append-animation-requires
-append-animation-requires c κs = search needs
-
-slice-aggregate-append-labelled-6 : tie.Need-slice-aggregate-append-labelled-6
-slice-aggregate-append-labelled-6 c = search needs
-
 cast-append-labelled-6 : tie.Need-cast-append-labelled-6
 cast-append-labelled-6 c = record { fits = omega (arith, printable (given (c .before .before)) (c .struct-known6 .given) .count) }
 
-append-labelled-requires-6 : tie.Need-append-labelled-requires-6
-append-labelled-requires-6 c κs = search needs
-
-slice-aggregate-append-labelled-7 : tie.Need-slice-aggregate-append-labelled-7
-slice-aggregate-append-labelled-7 c = search needs
-
 cast-append-labelled-7 : tie.Need-cast-append-labelled-7
 cast-append-labelled-7 c = record { fits = omega (arith, printable (given (c .before .before .before .before .before)) (c .struct-known7 .given) .size) }
-
-append-labelled-requires-7 : tie.Need-append-labelled-requires-7
-append-labelled-requires-7 c κs = search needs
-
-slice-aggregate-append : tie.Need-slice-aggregate-append
-slice-aggregate-append c = search needs
-
-append-requires : tie.Need-append-requires
-append-requires c κs = search needs
 
 returns : tie.Need-returns
 unfolding ascii
@@ -128,32 +50,32 @@ pub accepted-spec : {M : Type 1} → statement M
 accepted-spec =
     tie.close
     (tie.spec
-    empty-requires
-    slice-aggregate-append-labelled
-    cast-append-labelled
-    append-labelled-requires
-    slice-aggregate-append-labelled-2
-    cast-append-labelled-2
-    append-labelled-requires-2
-    slice-aggregate-append-labelled-3
-    cast-append-labelled-3
-    append-labelled-requires-3
-    slice-aggregate-append-labelled-4
-    cast-append-labelled-4
-    add-append-labelled
-    append-labelled-requires-4
-    slice-aggregate-append-labelled-5
-    cast-append-labelled-5
-    append-labelled-requires-5
-    append-alpha-requires
-    append-range-requires
-    append-animation-requires
-    slice-aggregate-append-labelled-6
+    (λ c κs. search needs)
+    (λ c. search needs)
+    (λ c. search needs)
+    (λ c κs. search needs)
+    (λ c. search needs)
+    (λ c. search needs)
+    (λ c κs. search needs)
+    (λ c. search needs)
+    (λ c. search needs)
+    (λ c κs. search needs)
+    (λ c. search needs)
+    (λ c. search needs)
+    (λ c. search needs)
+    (λ c κs. search needs)
+    (λ c. search needs)
+    (λ c. search needs)
+    (λ c κs. search needs)
+    (λ c κs. search needs)
+    (λ c κs. search needs)
+    (λ c κs. search needs)
+    (λ c. search needs)
     cast-append-labelled-6
-    append-labelled-requires-6
-    slice-aggregate-append-labelled-7
+    (λ c κs. search needs)
+    (λ c. search needs)
     cast-append-labelled-7
-    append-labelled-requires-7
-    slice-aggregate-append
-    append-requires
+    (λ c κs. search needs)
+    (λ c. search needs)
+    (λ c κs. search needs)
     returns)

@@ -1,31 +1,10 @@
--- `line::refused` meets its contract, in the same way as `line::accepted`. Assumes nothing.
+-- `line::refused` meets its contract, in the same way as `line::accepted`.
 use borrow.Author.Needs.{needs}
 use Rattle.bpg_line.specs.Text.{ascii, decimal}
 use Rattle.bpg_line.proofs.LineBufferLaws.{gathered-none, gathered-text, gathered-labelled}
 use Rattle.bpg_line.proofs.LineLaws.{length-refused}
 use Rattle.bpg_line.proofs.line.refused.Statement.{statement}
 use Rattle.bpg_line.proofs.line.refused.Tie as tie
-
-empty-requires : tie.Need-empty-requires
-empty-requires c κs = search needs
-
-slice-aggregate-append-labelled : tie.Need-slice-aggregate-append-labelled
-slice-aggregate-append-labelled c = search needs
-
-append-labelled-requires : tie.Need-append-labelled-requires
-append-labelled-requires c κs = search needs
-
-slice-aggregate-append-labelled-2 : tie.Need-slice-aggregate-append-labelled-2
-slice-aggregate-append-labelled-2 c = search needs
-
-append-labelled-requires-2 : tie.Need-append-labelled-requires-2
-append-labelled-requires-2 c κs = search needs
-
-slice-aggregate-append : tie.Need-slice-aggregate-append
-slice-aggregate-append c = search needs
-
-append-requires : tie.Need-append-requires
-append-requires c κs = search needs
 
 returns : tie.Need-returns
 unfolding ascii
@@ -43,11 +22,11 @@ pub refused-spec : {M : Type 1} → statement M
 refused-spec =
     tie.close
     (tie.spec
-    empty-requires
-    slice-aggregate-append-labelled
-    append-labelled-requires
-    slice-aggregate-append-labelled-2
-    append-labelled-requires-2
-    slice-aggregate-append
-    append-requires
+    (λ c κs. search needs)
+    (λ c. search needs)
+    (λ c κs. search needs)
+    (λ c. search needs)
+    (λ c κs. search needs)
+    (λ c. search needs)
+    (λ c κs. search needs)
     returns)

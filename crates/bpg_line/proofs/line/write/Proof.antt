@@ -1,4 +1,4 @@
--- `line::write` meets its contract. Assumes nothing.
+-- `line::write` meets its contract.
 use borrow.Author.Needs.{needs}
 use Rattle.bpg_line.specs.Line.{acceptedLine}
 use Rattle.bpg_line.proofs.LineBufferLaws.{writes}
@@ -6,28 +6,16 @@ use Rattle.bpg_line.proofs.LineLaws.{line-accepted, line-refused, print
 use Rattle.bpg_line.proofs.line.write.Statement.{statement}
 use Rattle.bpg_line.proofs.line.write.Tie as tie
 
-write-refused-requires : tie.Need-write-refused-requires
-write-refused-requires c κs = search needs
-
-same-length : tie.Need-same-length
-same-length c = search needs
-
 returns : tie.Need-returns
 returns c =
     let w = c .before .before in
     let branch = w .before .before in
     rw (line-refused (branch .before .before .before .args .reading) (branch .if1 .taken)) (w .write-refused .ensures)
 
-accepted-requires : tie.Need-accepted-requires
-accepted-requires c κs = search needs
-
 write-requires : tie.Need-write-requires
 write-requires c κs =
     let known = c .before .before .before .before in
     rw (c .before .accepted .ensures) (length-accepted (known .before .before .args .reading .«record») (printable _ (known .struct-known .given .1 .1 .1 .1 .0)))
-
-same-length-2 : tie.Need-same-length-2
-same-length-2 c = search needs
 
 returns-2 : tie.Need-returns-2
 returns-2 c =
@@ -41,10 +29,10 @@ pub write-spec : {M : Type 1} → statement M
 write-spec =
     tie.close
     (tie.spec
-    write-refused-requires
-    same-length
+    (λ c κs. search needs)
+    (λ c. search needs)
     returns
-    accepted-requires
+    (λ c κs. search needs)
     write-requires
-    same-length-2
+    (λ c. search needs)
     returns-2)

@@ -1,4 +1,4 @@
--- `line_buffer::append` meets its contract. Assumes nothing.
+-- `line_buffer::append` meets its contract.
 use Prim.Native.Nat.{ℕ}
 use mathlib.Core.Path.{ap₂}
 use mathlib.Core.List.{List}
@@ -8,16 +8,10 @@ use Rattle.bpg_line.specs.LineBuffer.{appended}
 use Rattle.bpg_line.proofs.line_buffer.append.Statement.{statement}
 use Rattle.bpg_line.proofs.line_buffer.append.Tie as tie
 
-slice-aggregate-write : tie.Need-slice-aggregate-write
-slice-aggregate-write c = search needs
-
-write-requires : tie.Need-write-requires
-write-requires c κs = search needs
-
 returns : tie.Need-returns
 unfolding appended
 returns c = let e = c .before .write .ensures in
     ap₂ {C = LineBuffer} (λ (b : List ℕ) (n : ℕ). record { bytes = b; len = n }) (e .0) (e .1)
 
 pub append-spec : {M : Type 1} → statement M
-append-spec = tie.close (tie.spec slice-aggregate-write write-requires returns)
+append-spec = tie.close (tie.spec (λ c. search needs) (λ c κs. search needs) returns)

@@ -1,5 +1,5 @@
 -- `line_buffer::append_decimal` meets its contract. The invariant: the digits that are left, put before those that are stored, are all of
--- v's. Assumes nothing.
+-- v's.
 use Prim.Native.Nat.{ℕ, suc, _+_, _-_, _/_, _%_, _≤_, _<_}
 use mathlib.Core.Path.{_≡_, refl, sym, ap, _∙_}
 use mathlib.Core.List.{List, _∷_, _++_, append-assoc}
@@ -37,50 +37,17 @@ done l next left v h n e =
     let z : left ≡ 0 = omega arith in
     take-all (20 - next) (drop next l) (rw length-drop (omega arith)) ∙ rw (z, leading-zero) at e
 
-add-digits : tie.Need-add-digits Inv-loop μ-loop
-add-digits c = omega arith
-
-cast-digits : tie.Need-cast-digits Inv-loop μ-loop
-cast-digits c = omega arith
-
-array-write-digits : tie.Need-array-write-digits Inv-loop μ-loop
-array-write-digits c = omega arith
-
 loop-holds : tie.Need-loop-holds Inv-loop μ-loop
 loop-holds c = (sym (decimal-leading (c .args .v)), refl, leading-most 19 (c .args .v / 10) (omega arith), omega arith)
 
 sub-next : tie.Need-sub-next Inv-loop μ-loop
 sub-next c = omega (arith, length-leading (c .before .loop .left) (c .loop-test .taken))
 
-add-digits-2 : tie.Need-add-digits-2 Inv-loop μ-loop
-add-digits-2 c = omega arith
-
-cast-digits-2 : tie.Need-cast-digits-2 Inv-loop μ-loop
-cast-digits-2 c = omega arith
-
-array-write-digits-2 : tie.Need-array-write-digits-2 Inv-loop μ-loop
-array-write-digits-2 c = omega arith
-
-loop-less : tie.Need-loop-less Inv-loop μ-loop
-loop-less c = omega arith
-
 loop-again : tie.Need-loop-again Inv-loop μ-loop
 loop-again c =
     let l = c .before .loop in
     let n = length-leading (l .left) (c .loop-test .taken) in
     (turn (l .digits) (l .next) (l .left) (c .loop-test .taken) (omega arith) (omega arith) ∙ l .inv .0, length-set (l .digits) _ _ ∙ l .inv .1, omega arith, omega arith)
-
-sub-append : tie.Need-sub-append Inv-loop μ-loop
-sub-append c = omega arith
-
-part-append-start : tie.Need-part-append-start Inv-loop μ-loop
-part-append-start c = omega arith
-
-part-append-end : tie.Need-part-append-end Inv-loop μ-loop
-part-append-end c = omega arith
-
-append-requires : tie.Need-append-requires Inv-loop μ-loop
-append-requires c κs = search needs
 
 returns : tie.Need-returns Inv-loop μ-loop
 returns c = let l = c .before .before .before .before .loop in
@@ -92,18 +59,18 @@ append-decimal-spec =
     (tie.spec
     Inv-loop
     μ-loop
-    add-digits
-    cast-digits
-    array-write-digits
+    (λ c. omega arith)
+    (λ c. omega arith)
+    (λ c. omega arith)
     loop-holds
     sub-next
-    add-digits-2
-    cast-digits-2
-    array-write-digits-2
-    loop-less
+    (λ c. omega arith)
+    (λ c. omega arith)
+    (λ c. omega arith)
+    (λ c. omega arith)
     loop-again
-    sub-append
-    part-append-start
-    part-append-end
-    append-requires
+    (λ c. omega arith)
+    (λ c. omega arith)
+    (λ c. omega arith)
+    (λ c κs. search needs)
     returns)

@@ -1,4 +1,4 @@
--- `line_buffer::append_labelled` meets its contract. Assumes nothing.
+-- `line_buffer::append_labelled` meets its contract.
 use mathlib.Core.Path.{ap, _∙_}
 use borrow.Author.Needs.{needs}
 use Rattle.bpg_line.specs.declared.line_buffer.LineBuffer.{LineBuffer}
@@ -7,14 +7,8 @@ use Rattle.bpg_line.specs.LineBuffer.{appended}
 use Rattle.bpg_line.proofs.line_buffer.append_labelled.Statement.{statement}
 use Rattle.bpg_line.proofs.line_buffer.append_labelled.Tie as tie
 
-append-requires : tie.Need-append-requires
-append-requires c κs = search needs
-
-append-decimal-requires : tie.Need-append-decimal-requires
-append-decimal-requires c κs = search needs
-
 returns : tie.Need-returns
 returns c = c .append-decimal .ensures ∙ ap (λ (b : LineBuffer). appended b (decimal (c .before .before .before .args .v))) (c .before .append .ensures)
 
 pub append-labelled-spec : {M : Type 1} → statement M
-append-labelled-spec = tie.close (tie.spec append-requires append-decimal-requires returns)
+append-labelled-spec = tie.close (tie.spec (λ c κs. search needs) (λ c κs. search needs) returns)

@@ -1,4 +1,4 @@
--- `line_buffer::write` meets its contract. Assumes nothing.
+-- `line_buffer::write` meets its contract.
 use mathlib.Core.Path.{_≡_, sym, _∙_}
 use native.Mathlib.Omega.{arith}
 use lib.ListN.{length, length-map}
@@ -18,16 +18,7 @@ array-share-prefix-bytes c = omega (arith, size (c .before .before .before))
 slice-aggregate-write : tie.Need-slice-aggregate-write
 slice-aggregate-write c = sym (length-take-le _ _ (omega (arith, size (c .before .before .before .before))))
 
-write-requires : tie.Need-write-requires
-write-requires c κs = search needs
-
-same-length : tie.Need-same-length
-same-length c = search needs
-
-returns : tie.Need-returns
-returns c = search needs
-
 pub write-spec : {M : Type 1} → statement M
 write-spec =
     tie.close
-    (tie.spec array-share-prefix-bytes slice-aggregate-write write-requires same-length returns)
+    (tie.spec array-share-prefix-bytes slice-aggregate-write (λ c κs. search needs) (λ c. search needs) (λ c. search needs))

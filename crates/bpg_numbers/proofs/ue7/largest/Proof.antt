@@ -1,4 +1,4 @@
--- `ue7::largest` meets its contract: 1 shifted by less than 32 does not wrap. Assumes nothing.
+-- `ue7::largest` meets its contract: 1 shifted by less than 32 does not wrap.
 use Prim.Native.Nat.{min}
 use mathlib.Core.Path.{_≡_}
 use native.Mathlib.Omega.{arith}
@@ -11,9 +11,6 @@ use Rattle.bpg_numbers.proofs.ue7.largest.Tie as tie
 returns : tie.Need-returns
 returns c = let e : min (c .before .args .n) 32 ≡ 32 = omega arith in rw e (omega arith)
 
-shl-result : tie.Need-shl-result
-shl-result c = search needs
-
 sub-result : tie.Need-sub-result
 sub-result c = omega (arith, one-shifted (c .before .args .n) 64 (omega arith), pow-pos (c .before .args .n))
 
@@ -24,4 +21,4 @@ returns-2 c =
     rw e (omega (arith, one-shifted n 64 (omega arith), pow-mono {i = n} {j = 32} (omega arith)))
 
 pub largest-spec : {M : Type 1} → statement M
-largest-spec = tie.close (tie.spec returns shl-result sub-result returns-2)
+largest-spec = tie.close (tie.spec returns (λ c. search needs) sub-result returns-2)

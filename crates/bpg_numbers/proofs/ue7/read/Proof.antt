@@ -1,5 +1,5 @@
 -- `ue7::read` meets its contract. The invariant: the value so far is within the limit, and reading on from the next byte gives
--- what reading from the start does. Assumes nothing.
+-- what reading from the start does.
 use Prim.Native.Nat.{ℕ, min, _+_, _-_, _*_, _%_, _^_, _≤_, _<_}
 use mathlib.Core.Path.{_≡_, sym, ap, _∙_}
 use mathlib.Core.List.{List, _∷_}
@@ -84,64 +84,25 @@ some c = pow-pos (min (c .before .before .before .before .before .args .n) 32)
 returns : tie.Need-returns Inv-loop μ-loop
 returns c = ap numberAnswer (empty _ _ _ (omega arith))
 
-shared-slice-read-first : tie.Need-shared-slice-read-first Inv-loop μ-loop
-shared-slice-read-first c = omega arith
-
 returns-2 : tie.Need-returns-2 Inv-loop μ-loop
 returns-2 c = ap numberAnswer (marked _ _ _ (omega arith) (c .if2 .taken))
-
-largest-requires : tie.Need-largest-requires Inv-loop μ-loop
-largest-requires c κs = search needs
-
-cast-low : tie.Need-cast-low Inv-loop μ-loop
-cast-low c = omega arith
 
 returns-3 : tie.Need-returns-3 Inv-loop μ-loop
 returns-3 c = ap numberAnswer (first-large _ _ _ (omega arith) (c .before .before .if2 .left) (omega arith))
 
-cast-t15 : tie.Need-cast-t15 Inv-loop μ-loop
-cast-t15 c = omega arith
-
-add-t16 : tie.Need-add-t16 Inv-loop μ-loop
-add-t16 c = omega arith
-
 returns-4 : tie.Need-returns-4 Inv-loop μ-loop
 returns-4 c = ap numberAnswer (first-done _ _ _ (omega arith) (c .before .before .before .if2 .left) (omega (arith, some (c .before .before))) (omega arith))
-
-add-next : tie.Need-add-next Inv-loop μ-loop
-add-next c = omega arith
 
 loop-holds : tie.Need-loop-holds Inv-loop μ-loop
 loop-holds c = (omega arith, first-more _ _ _ (omega arith) (c .before .before .before .if2 .left) (omega (arith, some (c .before .before))) (omega arith))
 
-shared-slice-read-byte : tie.Need-shared-slice-read-byte Inv-loop μ-loop
-shared-slice-read-byte c = omega arith
-
-mul-value : tie.Need-mul-value Inv-loop μ-loop
-mul-value c = omega arith
-
-cast-value : tie.Need-cast-value Inv-loop μ-loop
-cast-value c = omega arith
-
-add-value : tie.Need-add-value Inv-loop μ-loop
-add-value c = omega arith
-
 returns-5 : tie.Need-returns-5 Inv-loop μ-loop
 returns-5 c = ap numberAnswer (large _ _ _ _ _ (c .before .before .before .loop .inv .1) (omega arith) (omega arith))
-
-add-next-2 : tie.Need-add-next-2 Inv-loop μ-loop
-add-next-2 c = omega arith
-
-cast-t23 : tie.Need-cast-t23 Inv-loop μ-loop
-cast-t23 c = omega arith
 
 returns-6 : tie.Need-returns-6 Inv-loop μ-loop
 returns-6 c =
     let l = c .before .before .before .before in
     ap numberAnswer (done _ _ _ _ _ (l .loop .inv .1) (omega arith) (omega (arith, some (l .before .before .before))) (omega arith))
-
-loop-less : tie.Need-loop-less Inv-loop μ-loop
-loop-less c = omega arith
 
 loop-again : tie.Need-loop-again Inv-loop μ-loop
 loop-again c = (omega arith, more _ _ _ _ _ (c .before .before .before .before .loop .inv .1) (omega arith) (omega (arith, some (c .before .before .before .before .before .before .before))) (omega arith))
@@ -156,24 +117,24 @@ read-spec =
     Inv-loop
     μ-loop
     returns
-    shared-slice-read-first
+    (λ c. omega arith)
     returns-2
-    largest-requires
-    cast-low
+    (λ c κs. search needs)
+    (λ c. omega arith)
     returns-3
-    cast-t15
-    add-t16
+    (λ c. omega arith)
+    (λ c. omega arith)
     returns-4
-    add-next
+    (λ c. omega arith)
     loop-holds
-    shared-slice-read-byte
-    mul-value
-    cast-value
-    add-value
+    (λ c. omega arith)
+    (λ c. omega arith)
+    (λ c. omega arith)
+    (λ c. omega arith)
     returns-5
-    add-next-2
-    cast-t23
+    (λ c. omega arith)
+    (λ c. omega arith)
     returns-6
-    loop-less
+    (λ c. omega arith)
     loop-again
     returns-7)

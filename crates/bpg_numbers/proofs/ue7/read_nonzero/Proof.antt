@@ -1,4 +1,4 @@
--- `ue7::read_nonzero` meets its contract: the answer of `ue7::read`, and the status where its value is 0. Assumes nothing.
+-- `ue7::read_nonzero` meets its contract: the answer of `ue7::read`, and the status where its value is 0.
 use mathlib.Core.Path.{_≡_, ap}
 use mathlib.Core.Logic.{_≢_}
 use mathlib.Core.List.{List}
@@ -30,15 +30,6 @@ module _ (region : List ℕ) (n status p : ℕ) where
       → ok (v, q) ≡ located (guarded (ue7 n) notZero status atOwn .decode p p (drop p region))
   unfolding guarded
   positive v q e z = rw (e, ne-eqb v 0 z)
-
-read-requires : tie.Need-read-requires
-read-requires c κs = search needs
-
-enum-known-why : tie.Need-enum-known-why
-enum-known-why c = search needs
-
-enum-known-value : tie.Need-enum-known-value
-enum-known-value c = search needs
 
 -- a value was read
 module _ (c : tie.After-known-told2) where
@@ -74,4 +65,4 @@ returns-3 c = ap numberAnswer (positive _ _ _ _ _ (after (c .before)) (value-is 
 pub read-nonzero-spec : {M : Type 1} → statement M
 read-nonzero-spec =
     tie.close
-    (tie.spec read-requires enum-known-why enum-known-value returns returns-2 returns-3)
+    (tie.spec (λ c κs. search needs) (λ c. search needs) (λ c. search needs) returns returns-2 returns-3)

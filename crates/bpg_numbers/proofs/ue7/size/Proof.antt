@@ -1,4 +1,4 @@
--- `ue7::size` meets its contract: the count so far and the groups that are left make up the length. Assumes nothing.
+-- `ue7::size` meets its contract: the count so far and the groups that are left make up the length.
 use Prim.Native.Nat.{_+_}
 use mathlib.Core.Path.{_≡_, ap, _∙_}
 use native.Mathlib.Omega.{arith}
@@ -20,9 +20,6 @@ loop-holds c = omega (arith, size-bytes (c .args .v))
 add-count : tie.Need-add-count Inv-loop μ-loop
 add-count c = omega (arith, size-most (c .before .before .args .v) (c .before .before .fits .v .fits))
 
-loop-less : tie.Need-loop-less Inv-loop μ-loop
-loop-less c = omega arith
-
 loop-again : tie.Need-loop-again Inv-loop μ-loop
 loop-again c = omega (arith, size-high (c .before .loop .left) (c .loop-test .taken))
 
@@ -30,4 +27,4 @@ returns : tie.Need-returns Inv-loop μ-loop
 returns c = let z : c .before .loop .left ≡ 0 = omega arith in omega (arith, ap length (ap high z ∙ high-zero))
 
 pub size-spec : {M : Type 1} → statement M
-size-spec = tie.close (tie.spec Inv-loop μ-loop loop-holds add-count loop-less loop-again returns)
+size-spec = tie.close (tie.spec Inv-loop μ-loop loop-holds add-count (λ c. omega arith) loop-again returns)

@@ -1,5 +1,5 @@
 -- `ue7::write` meets its contract. It fills from the last byte back. The invariant: the groups that are left, put before the bytes from the
--- next place on, are as they were where the loop began, and the bytes before that place are untouched. Assumes nothing.
+-- next place on, are as they were where the loop began, and the bytes before that place are untouched.
 use Prim.Native.Nat.{ℕ, suc, _+_, _-_, _/_, _%_, _≤_, _<_}
 use mathlib.Core.Path.{_≡_, refl, sym, ap, ap₂, _∙_}
 use mathlib.Core.List.{List, _∷_, _++_, append-assoc}
@@ -49,24 +49,12 @@ done entry out at past v h k p g t =
     ∙ ap₂ (λ (a b : List ℕ). a ++ b) (t ∙ take-set-le at entry (past - 1) (v % 128) (omega arith))
     (sym (ap (λ (l : List ℕ). l ++ drop at out) high-zero) ∙ g ∙ rw (d, bytes-high v, append-assoc, ← bytes-high v, ← p))
 
-size-requires : tie.Need-size-requires Inv-loop μ-loop
-size-requires c κs = search needs
-
-remaining-requires : tie.Need-remaining-requires Inv-loop μ-loop
-remaining-requires c κs = search needs
-
 returns : tie.Need-returns Inv-loop μ-loop
 returns c = let a = c .before .before .before .before .args in
     refused (a .out .now) (a .at .0) (ue7Bytes (a .v)) (omega (arith, size-positive (a .v)))
 
-add-past : tie.Need-add-past Inv-loop μ-loop
-add-past c = omega arith
-
 sub-next : tie.Need-sub-next Inv-loop μ-loop
 sub-next c = omega (arith, size-positive (c .before .before .before .before .args .v))
-
-cast-out : tie.Need-cast-out Inv-loop μ-loop
-cast-out c = omega arith
 
 slice-write-out : tie.Need-slice-write-out Inv-loop μ-loop
 slice-write-out c = omega (arith, size-positive (c .before .before .before .before .args .v))
@@ -78,17 +66,8 @@ loop-holds c = let a = c .before .before .before .before .args in
 sub-next-2 : tie.Need-sub-next-2 Inv-loop μ-loop
 sub-next-2 c = omega (arith, size-high (c .before .loop .left) (c .loop-test .taken))
 
-add-out : tie.Need-add-out Inv-loop μ-loop
-add-out c = omega arith
-
-cast-out-2 : tie.Need-cast-out-2 Inv-loop μ-loop
-cast-out-2 c = omega arith
-
 slice-write-out-2 : tie.Need-slice-write-out-2 Inv-loop μ-loop
 slice-write-out-2 c = omega (arith, simp length-set at (c .before .loop .inv .3))
-
-loop-less : tie.Need-loop-less Inv-loop μ-loop
-loop-less c = omega arith
 
 loop-again : tie.Need-loop-again Inv-loop μ-loop
 loop-again c = let l = c .before .loop in
@@ -122,19 +101,19 @@ write-spec =
     (tie.spec
     Inv-loop
     μ-loop
-    size-requires
-    remaining-requires
+    (λ c κs. search needs)
+    (λ c κs. search needs)
     returns
-    add-past
+    (λ c. omega arith)
     sub-next
-    cast-out
+    (λ c. omega arith)
     slice-write-out
     loop-holds
     sub-next-2
-    add-out
-    cast-out-2
+    (λ c. omega arith)
+    (λ c. omega arith)
     slice-write-out-2
-    loop-less
+    (λ c. omega arith)
     loop-again
     same-length
     returns-2)

@@ -1,4 +1,4 @@
--- `answer::coded_size` meets its contract. Assumes nothing.
+-- `answer::coded_size` meets its contract.
 use mathlib.Core.Path.{_≡_}
 use Prim.Native.Nat.{_+_, _-_, _*_, _%_, _^_, _≤_}
 use native.Mathlib.Nat.{div-mul-le-self}
@@ -16,9 +16,6 @@ module _ (c : tie.Start) where
   unit-most : 2 ^ c .args .«log2-size» ≤ 64
   unit-most = pow-mono {i = c .args .«log2-size»} {j = 6} (c .pre)
 
-shl-unit : tie.Need-shl-unit
-shl-unit c = search needs
-
 add-result : tie.Need-add-result
 add-result c = omega (arith, unit-is c, unit-most c)
 
@@ -35,4 +32,4 @@ returns : tie.Need-returns
 returns c = rw (unit-is c)
 
 pub coded-size-spec : {M : Type 1} → statement M
-coded-size-spec = tie.close (tie.spec shl-unit add-result sub-result div-result mul-result returns)
+coded-size-spec = tie.close (tie.spec (λ c. search needs) add-result sub-result div-result mul-result returns)

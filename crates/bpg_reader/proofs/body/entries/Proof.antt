@@ -1,4 +1,4 @@
--- `body::entries` meets its contract. Assumes nothing.
+-- `body::entries` meets its contract.
 use mathlib.Core.Path.{_≡_, _∙_}
 use lib.ListN.{take, drop}
 use Prim.Native.Nat.{_-_}
@@ -20,42 +20,15 @@ module _ (c : tie.Else1) where
       blockAnswer (h .end) (entriesIn (take (bodyStart h - 0) file) (h .end)) ≡ blockAnswer (h .end) (readBlock h (drop (h .end) file))
   region = block-region _ (start .pre .0) (headFields (start .args .head)) (start .pre .1) (c .if1 .left)
 
-cast-length : tie.Need-cast-length
-cast-length c = search needs
-
-sub-if1 : tie.Need-sub-if1
-sub-if1 c = search needs
-
-refused-requires : tie.Need-refused-requires
-refused-requires c κs = search needs
-
 returns : tie.Need-returns
 returns c =
     let s = c .before .before .before .before .before in
     c .refused .ensures ∙ block-too-large _ (s .pre .0) (headFields (s .args .head)) (s .pre .1) (c .before .if1 .taken)
 
-none-requires : tie.Need-none-requires
-none-requires c κs = search needs
-
 returns-2 : tie.Need-returns-2
 returns-2 c =
     let s = start (c .before .before) in
     c .none .ensures ∙ block-empty _ (s .pre .0) (headFields (s .args .head)) (s .pre .1) (c .before .if2 .taken)
-
-add-end : tie.Need-add-end
-add-end c = search needs
-
-sub-read : tie.Need-sub-read
-sub-read c = search needs
-
-part-read-start : tie.Need-part-read-start
-part-read-start c = search needs
-
-part-read-end : tie.Need-part-read-end
-part-read-end c = search needs
-
-read-requires : tie.Need-read-requires
-read-requires c κs = search needs
 
 returns-3 : tie.Need-returns-3
 returns-3 c = c .read .ensures ∙ region (c .before .before .before .before)
@@ -64,15 +37,15 @@ pub entries-spec : {M : Type 1} → statement M
 entries-spec =
     tie.close
     (tie.spec
-    cast-length
-    sub-if1
-    refused-requires
+    (λ c. search needs)
+    (λ c. search needs)
+    (λ c κs. search needs)
     returns
-    none-requires
+    (λ c κs. search needs)
     returns-2
-    add-end
-    sub-read
-    part-read-start
-    part-read-end
-    read-requires
+    (λ c. search needs)
+    (λ c. search needs)
+    (λ c. search needs)
+    (λ c. search needs)
+    (λ c κs. search needs)
     returns-3)

@@ -1,4 +1,4 @@
--- `body::read` meets its contract. Assumes nothing.
+-- `body::read` meets its contract.
 use mathlib.Core.Path.{_≡_, sym, ap, _∙_}
 use mathlib.Core.Bool.{Bool, true, not, _||_}
 use mathlib.Core.List.{List}
@@ -77,19 +77,10 @@ module _ (c : tie.After-read) where
 entries-requires : tie.Need-entries-requires
 entries-requires c κs = let s = c .before in (s .pre .0, head-facts _ _ (s .pre .1) .end-inside)
 
-reading-refused-requires : tie.Need-reading-refused-requires
-reading-refused-requires c κs = search needs
-
 returns : tie.Need-returns
 returns c =
     let e = c .before .before .before in
     c .reading-refused .ensures ∙ entries-refused (file e) (short e) (head e) (known e) (e .entries .result) (e .entries .ensures) (c .before .if1 .taken)
-
-control-fits-requires : tie.Need-control-fits-requires
-control-fits-requires c κs = search needs
-
-reading-refused-requires-2 : tie.Need-reading-refused-requires-2
-reading-refused-requires-2 c κs = search needs
 
 returns-2 : tie.Need-returns-2
 returns-2 c =
@@ -99,20 +90,11 @@ returns-2 c =
     ∙ no-control (file e) (short e) (head e) (known e) (e .entries .result) (e .entries .ensures) (k .before .if1 .left)
     (sym (k .control-fits .ensures) ∙ not-true _ (c .before .if2 .taken))
 
-cast-start : tie.Need-cast-start
-cast-start c = search needs
-
 add-start : tie.Need-add-start
 add-start c = omega (arith, inside (c .before .before), short (entered (c .before .before)))
 
 sub-reaches-end : tie.Need-sub-reaches-end
 sub-reaches-end c = inside (c .before .before)
-
-reaches-end-requires : tie.Need-reaches-end-requires
-reaches-end-requires c κs = search needs
-
-reading-refused-requires-3 : tie.Need-reading-refused-requires-3
-reading-refused-requires-3 c κs = search needs
 
 returns-3 : tie.Need-returns-3
 returns-3 c =
@@ -123,17 +105,8 @@ returns-3 c =
     ∙ length-misses (file e) (short e) (head e) (known e) (e .entries .result) (e .entries .ensures) (accepted k) (controlled k)
     (sym (d .reaches-end .ensures) ∙ not-true _ (c .before .if3 .taken))
 
-has-alpha-requires : tie.Need-has-alpha-requires
-has-alpha-requires c κs = search needs
-
 add-read : tie.Need-add-read
 add-read c = let e = c .before .before .before .before .before .before .before .before .before .before in omega (arith, head-facts _ _ (known e) .depth-limit)
-
-read-requires : tie.Need-read-requires
-read-requires c κs = search needs
-
-reading-refused-requires-4 : tie.Need-reading-refused-requires-4
-reading-refused-requires-4 c κs = search needs
 
 returns-4 : tie.Need-returns-4
 returns-4 c =
@@ -172,21 +145,21 @@ read-spec =
     tie.close
     (tie.spec
     entries-requires
-    reading-refused-requires
+    (λ c κs. search needs)
     returns
-    control-fits-requires
-    reading-refused-requires-2
+    (λ c κs. search needs)
+    (λ c κs. search needs)
     returns-2
-    cast-start
+    (λ c. search needs)
     add-start
     sub-reaches-end
-    reaches-end-requires
-    reading-refused-requires-3
+    (λ c κs. search needs)
+    (λ c κs. search needs)
     returns-3
-    has-alpha-requires
+    (λ c κs. search needs)
     add-read
-    read-requires
-    reading-refused-requires-4
+    (λ c κs. search needs)
+    (λ c κs. search needs)
     returns-4
     assemble-requires
     returns-5)

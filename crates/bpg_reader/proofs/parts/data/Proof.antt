@@ -1,4 +1,4 @@
--- `parts::data` meets its contract. Assumes nothing.
+-- `parts::data` meets its contract.
 use mathlib.Core.Path.{_≡_, refl, ap}
 use Prim.Native.Nat.{_+_, _-_}
 use native.Mathlib.Omega.{arith}
@@ -11,23 +11,11 @@ use borrow.Author.Needs.{needs}
 use Rattle.bpg_reader.proofs.parts.data.Statement.{statement}
 use Rattle.bpg_reader.proofs.parts.data.Tie as tie
 
-read-requires : tie.Need-read-requires
-read-requires c κs = search needs
-
-cast-start : tie.Need-cast-start
-cast-start c = search needs
-
 cast-result : tie.Need-cast-result
 cast-result c = record { fits = omega (arith, data-fits (c .before .before .before .read .result .«record») (c .struct-known2 .given)) }
 
 add-result : tie.Need-add-result
 add-result c = record { fits = omega (arith, data-fits (c .before .before .before .read .result .«record») (c .struct-known2 .given)) }
-
-sub-result : tie.Need-sub-result
-sub-result c = search needs
-
-part-result-start : tie.Need-part-result-start
-part-result-start c = search needs
 
 part-result-end : tie.Need-part-result-end
 part-result-end c =
@@ -47,11 +35,11 @@ pub data-spec : {M : Type 1} → statement M
 data-spec =
     tie.close
     (tie.spec
-    read-requires
-    cast-start
+    (λ c κs. search needs)
+    (λ c. search needs)
     cast-result
     add-result
-    sub-result
-    part-result-start
+    (λ c. search needs)
+    (λ c. search needs)
     part-result-end
     returns)

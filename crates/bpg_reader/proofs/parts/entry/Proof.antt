@@ -1,21 +1,9 @@
--- `parts::entry` meets its contract. Assumes nothing.
+-- `parts::entry` meets its contract.
 use mathlib.Core.Path.{sym, _∙_}
 use Rattle.bpg_reader.proofs.PartLaws.{entry-in}
 use borrow.Author.Needs.{needs}
 use Rattle.bpg_reader.proofs.parts.entry.Statement.{statement}
 use Rattle.bpg_reader.proofs.parts.entry.Tie as tie
-
-entry-at-requires : tie.Need-entry-at-requires
-entry-at-requires c κs = search needs
-
-enum-told : tie.Need-enum-told
-enum-told c = search needs
-
-zero-entry-requires : tie.Need-zero-entry-requires
-zero-entry-requires c κs = search needs
-
-enum-known-found : tie.Need-enum-known-found
-enum-known-found c = search needs
 
 returns : tie.Need-returns
 returns c =
@@ -28,4 +16,4 @@ returns-2 c = let r = c .before .before .before in entry-in _ _ _ (sym (c .befor
 pub entry-spec : {M : Type 1} → statement M
 entry-spec =
     tie.close
-    (tie.spec entry-at-requires enum-told zero-entry-requires enum-known-found returns returns-2)
+    (tie.spec (λ c κs. search needs) (λ c. search needs) (λ c κs. search needs) (λ c. search needs) returns returns-2)

@@ -1,4 +1,4 @@
--- `parts::entry_at` meets its contract. Assumes nothing.
+-- `parts::entry_at` meets its contract.
 use mathlib.Core.Path.{ap}
 use native.Mathlib.Omega.{arith}
 use Rattle.bpg_codec.proofs.Tokens.{all-bytes}
@@ -8,17 +8,8 @@ use borrow.Author.Needs.{needs}
 use Rattle.bpg_reader.proofs.parts.entry_at.Statement.{statement}
 use Rattle.bpg_reader.proofs.parts.entry_at.Tie as tie
 
-read-requires : tie.Need-read-requires
-read-requires c κs = search needs
-
-cast-if1 : tie.Need-cast-if1
-cast-if1 c = search needs
-
 returns : tie.Need-returns
 returns c = let r = c .before .before in entry-absent _ _ (r .read .result) (r .read .ensures .0) (c .if1 .taken)
-
-mul-entry : tie.Need-mul-entry
-mul-entry c = search needs
 
 element-copy-out-entry : tie.Need-element-copy-out-entry
 element-copy-out-entry c =
@@ -32,4 +23,4 @@ returns-2 c = let r = c .before .before .before in entry-found _ _ (r .read .res
 
 pub entry-at-spec : {M : Type 1} → statement M
 entry-at-spec =
-    tie.close (tie.spec read-requires cast-if1 returns mul-entry element-copy-out-entry returns-2)
+    tie.close (tie.spec (λ c κs. search needs) (λ c. search needs) returns (λ c. search needs) element-copy-out-entry returns-2)

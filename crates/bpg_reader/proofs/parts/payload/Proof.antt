@@ -1,4 +1,4 @@
--- `parts::payload` meets its contract. Assumes nothing.
+-- `parts::payload` meets its contract.
 use mathlib.Core.Path.{_≡_, refl, ap}
 use Prim.Native.Nat.{_+_, _-_}
 use native.Mathlib.Omega.{arith}
@@ -9,24 +9,6 @@ use Rattle.bpg_reader.proofs.PartLaws.{payload-inside, payload-bytes}
 use borrow.Author.Needs.{needs}
 use Rattle.bpg_reader.proofs.parts.payload.Statement.{statement}
 use Rattle.bpg_reader.proofs.parts.payload.Tie as tie
-
-entry-requires : tie.Need-entry-requires
-entry-requires c κs = search needs
-
-cast-start : tie.Need-cast-start
-cast-start c = search needs
-
-cast-result : tie.Need-cast-result
-cast-result c = search needs
-
-add-result : tie.Need-add-result
-add-result c = search needs
-
-sub-result : tie.Need-sub-result
-sub-result c = search needs
-
-part-result-start : tie.Need-part-result-start
-part-result-start c = search needs
 
 part-result-end : tie.Need-part-result-end
 part-result-end c =
@@ -46,11 +28,11 @@ pub payload-spec : {M : Type 1} → statement M
 payload-spec =
     tie.close
     (tie.spec
-    entry-requires
-    cast-start
-    cast-result
-    add-result
-    sub-result
-    part-result-start
+    (λ c κs. search needs)
+    (λ c. search needs)
+    (λ c. search needs)
+    (λ c. search needs)
+    (λ c. search needs)
+    (λ c. search needs)
     part-result-end
     returns)

@@ -1,4 +1,4 @@
--- `emit::block` meets its contract. Assumes nothing.
+-- `emit::block` meets its contract.
 use mathlib.Core.Path.{ap}
 use mathlib.Core.List.{List, [], _++_}
 use Prim.Native.Nat.{ℕ, _+_, _≤_}
@@ -35,18 +35,12 @@ returns c =
     let s = c .before .before .before .before in
     put-absent (s .args .out .now) (s .args .at .0) _ _ (not-true _ (c .if1 .taken)) (s .pre .1 .1 .1)
 
-write-requires : tie.Need-write-requires
-write-requires c κs = search needs
-
 entries-requires : tie.Need-entries-requires
 entries-requires c κs =
     let w = c .before .before .before in
     let s = start w in
     let e = put-end (s .args .out .now) (s .args .at .0) (size w) _ _ (omega (arith, fits w, length-append (size w) (part w))) (written-size w) in
     (s .pre .0, (s .pre .1 .0, omega (arith, e .0, e .1, fits w, length-append (size w) (part w))))
-
-same-length : tie.Need-same-length
-same-length c = search needs
 
 returns-2 : tie.Need-returns-2
 returns-2 c =
@@ -57,4 +51,4 @@ returns-2 c =
     (put-then (s .args .out .now) (s .args .at .0) (size w) (part w) _ _ _ _ (fits w) (written-size w) (e .entries .ensures))
 
 pub block-spec : {M : Type 1} → statement M
-block-spec = tie.close (tie.spec returns write-requires entries-requires same-length returns-2)
+block-spec = tie.close (tie.spec returns (λ c κs. search needs) entries-requires (λ c. search needs) returns-2)

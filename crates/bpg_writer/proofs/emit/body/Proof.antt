@@ -1,4 +1,4 @@
--- `emit::body` meets its contract. Assumes nothing.
+-- `emit::body` meets its contract.
 use mathlib.Core.Path.{_≡_, ap}
 use mathlib.Core.Bool.{true}
 use mathlib.Core.List.{List, _++_}
@@ -37,30 +37,6 @@ header-requires-2 c κs =
     let e = put-end (s .args .out .now) (s .args .at .0) (alpha-part s) _ _ (omega (arith, fits s)) (w .header .ensures) in
     (s .pre .1 .0, omega (arith, e .0, e .1, fits s))
 
-cast-start : tie.Need-cast-start
-cast-start c = search needs
-
-cast-write : tie.Need-cast-write
-cast-write c = search needs
-
-add-write : tie.Need-add-write
-add-write c = search needs
-
-sub-write : tie.Need-sub-write
-sub-write c = search needs
-
-part-write-start : tie.Need-part-write-start
-part-write-start c = search needs
-
-part-write-end : tie.Need-part-write-end
-part-write-end c = search needs
-
-write-requires : tie.Need-write-requires
-write-requires c κs = search needs
-
-same-length : tie.Need-same-length
-same-length c = search needs
-
 returns : tie.Need-returns
 returns c =
     let w = c .before .before in
@@ -78,12 +54,12 @@ body-spec =
     (tie.spec
     header-requires
     header-requires-2
-    cast-start
-    cast-write
-    add-write
-    sub-write
-    part-write-start
-    part-write-end
-    write-requires
-    same-length
+    (λ c. search needs)
+    (λ c. search needs)
+    (λ c. search needs)
+    (λ c. search needs)
+    (λ c. search needs)
+    (λ c. search needs)
+    (λ c κs. search needs)
+    (λ c. search needs)
     returns)

@@ -1,4 +1,4 @@
--- `emit::entries` meets its contract: the entries so far are written. Assumes nothing.
+-- `emit::entries` meets its contract: the entries so far are written.
 use mathlib.Core.Path.{_≡_, sym, ap}
 use mathlib.Core.List.{List, _++_, map}
 use Prim.Native.Nat.{ℕ, _+_, _-_, _≤_, _<_}
@@ -57,9 +57,6 @@ module _ (c : tie.In-loop Inv-loop μ-loop) where
       ≤ length (start .args .out .now)
   fits-more = omega (arith, fits start (k + 1) (omega (arith, c .loop-test .taken)), ap length more)
 
-cast-total : tie.Need-cast-total Inv-loop μ-loop
-cast-total c = search needs
-
 loop-holds : tie.Need-loop-holds Inv-loop μ-loop
 loop-holds c = let s = c .before .before .before .before in (omega arith, put-none (s .args .out .now) (s .args .at .0) (omega (arith, s .pre .1 .1)))
 
@@ -76,12 +73,6 @@ entry-requires c κs =
       nth-used (RangeInside (length (s .args .source .now))) (s .args .«record» .entries) (s .args .«record» .«entry_count») (k l) (s .pre .1 .0) (l .loop-test .taken) (inside l),
       omega (arith, fits-more l, so-far l .0, so-far l .1, length-append (first s (k l)) (extensionBytes (extensionOf (s .args .source .now) (getD (s .args .«record» .entries) (k l) zeroEntry)))),
     )
-
-add-k : tie.Need-add-k Inv-loop μ-loop
-add-k c = search needs
-
-loop-less : tie.Need-loop-less Inv-loop μ-loop
-loop-less c = omega arith
 
 loop-again : tie.Need-loop-again Inv-loop μ-loop
 loop-again c =
@@ -110,13 +101,13 @@ entries-spec =
     (tie.spec
     Inv-loop
     μ-loop
-    cast-total
+    (λ c. search needs)
     loop-holds
     mul-one
     array-copy-out-one
     entry-requires
-    add-k
-    loop-less
+    (λ c. search needs)
+    (λ c. omega arith)
     loop-again
     same-length
     returns)

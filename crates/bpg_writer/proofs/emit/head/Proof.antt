@@ -1,32 +1,8 @@
--- `emit::head` meets its contract. Assumes nothing.
+-- `emit::head` meets its contract.
 use Rattle.bpg_writer.proofs.PartLaws.{head-put}
 use borrow.Author.Needs.{needs}
 use Rattle.bpg_writer.proofs.emit.head.Statement.{statement}
 use Rattle.bpg_writer.proofs.emit.head.Tie as tie
-
-byte4-requires : tie.Need-byte4-requires
-byte4-requires c κs = search needs
-
-byte5-requires : tie.Need-byte5-requires
-byte5-requires c κs = search needs
-
-slice-aggregate-write : tie.Need-slice-aggregate-write
-slice-aggregate-write c = search needs
-
-write-requires : tie.Need-write-requires
-write-requires c κs = search needs
-
-write-requires-2 : tie.Need-write-requires-2
-write-requires-2 c κs = search needs
-
-write-requires-3 : tie.Need-write-requires-3
-write-requires-3 c κs = search needs
-
-write-requires-4 : tie.Need-write-requires-4
-write-requires-4 c κs = search needs
-
-same-length : tie.Need-same-length
-same-length c = search needs
 
 returns : tie.Need-returns
 returns c =
@@ -43,12 +19,12 @@ pub head-spec : {M : Type 1} → statement M
 head-spec =
     tie.close
     (tie.spec
-    byte4-requires
-    byte5-requires
-    slice-aggregate-write
-    write-requires
-    write-requires-2
-    write-requires-3
-    write-requires-4
-    same-length
+    (λ c κs. search needs)
+    (λ c κs. search needs)
+    (λ c. search needs)
+    (λ c κs. search needs)
+    (λ c κs. search needs)
+    (λ c κs. search needs)
+    (λ c κs. search needs)
+    (λ c. search needs)
     returns)

@@ -1,4 +1,4 @@
--- `emit::header` meets its contract. Assumes nothing.
+-- `emit::header` meets its contract.
 use mathlib.Core.Path.{ap}
 use mathlib.Core.List.{List, [], _++_}
 use Prim.Native.Nat.{ℕ}
@@ -19,21 +19,6 @@ returns c =
     let s = c .before .before in
     put-absent (s .args .out .now) (s .args .at .0) _ _ (not-true _ (c .if1 .taken)) (s .pre .1)
 
-add-size : tie.Need-add-size
-add-size c = search needs
-
-cast-write : tie.Need-cast-write
-cast-write c = search needs
-
-write-requires : tie.Need-write-requires
-write-requires c κs = search needs
-
-write-requires-2 : tie.Need-write-requires-2
-write-requires-2 c κs = search needs
-
-same-length : tie.Need-same-length
-same-length c = search needs
-
 returns-2 : tie.Need-returns-2
 returns-2 c =
     let w2 = c .before .before in
@@ -49,4 +34,4 @@ returns-2 c =
 pub header-spec : {M : Type 1} → statement M
 header-spec =
     tie.close
-    (tie.spec returns add-size cast-write write-requires write-requires-2 same-length returns-2)
+    (tie.spec returns (λ c. search needs) (λ c. search needs) (λ c κs. search needs) (λ c κs. search needs) (λ c. search needs) returns-2)

@@ -1,4 +1,4 @@
--- `file::emit_file` meets its contract. Assumes nothing.
+-- `file::emit_file` meets its contract.
 use mathlib.Core.Path.{_≡_, ap}
 use mathlib.Core.Bool.{Bool, true, false, _||_}
 use mathlib.Core.List.{List, _++_}
@@ -63,9 +63,6 @@ body-is c =
     let s = c .before .before .before .before .before .before .before .before .before .before .before .before .before in
     ap (λ (t : Bool). bodyPart t (s .args .alpha) (s .args .color) (s .args .source .now) (s .args .«record» .«data»)) (c .has-alpha .ensures)
 
-data-length-requires : tie.Need-data-length-requires
-data-length-requires c κs = search needs
-
 cast-head : tie.Need-cast-head
 cast-head c = omega (arith, length-small (c .before))
 
@@ -75,9 +72,6 @@ head-requires c κs =
     let s = d .before .before .before in
     (s .pre .0, (s .pre .1 .0, (s .pre .1 .1 .0, omega (arith, fits s, ap length (head-is d)))))
 
-cast-block : tie.Need-cast-block
-cast-block c = search needs
-
 block-requires : tie.Need-block-requires
 block-requires c κs =
     let h = c .before .before .before .before in
@@ -86,9 +80,6 @@ block-requires c κs =
     let p = s .pre .1 .1 .1 in
     let e = head-end h in
     (p .0, (p .1 .0, (p .1 .1 .1 .1 .1 .0, omega (arith, fits s, e .0, e .1))))
-
-has-alpha-requires : tie.Need-has-alpha-requires
-has-alpha-requires c κs = search needs
 
 body-requires : tie.Need-body-requires
 body-requires c κs =
@@ -100,9 +91,6 @@ body-requires c κs =
     let e = head-end h in
     let f = put-end (h .head .last .0) (h .head .result .0) (block-part s) _ _ (omega (arith, fits s, e .0, e .1)) (b .block .ensures) in
     (p .1 .0, (p .1 .1 .0, (p .0, omega (arith, fits s, e .0, e .1, f .0, f .1, ap length (body-is a)))))
-
-same-length : tie.Need-same-length
-same-length c = search needs
 
 returns : tie.Need-returns
 returns c =
@@ -118,12 +106,12 @@ pub emit-file-spec : {M : Type 1} → statement M
 emit-file-spec =
     tie.close
     (tie.spec
-    data-length-requires
+    (λ c κs. search needs)
     cast-head
     head-requires
-    cast-block
+    (λ c. search needs)
     block-requires
-    has-alpha-requires
+    (λ c κs. search needs)
     body-requires
-    same-length
+    (λ c. search needs)
     returns)

@@ -1,4 +1,4 @@
--- `file::encoded` meets its contract. Assumes nothing.
+-- `file::encoded` meets its contract.
 use mathlib.Core.Path.{_≡_, sym, ap, _∙_}
 use mathlib.Core.Bool.{Bool, false, true≢false}
 use native.Mathlib.Omega.{arith}
@@ -16,14 +16,8 @@ use Rattle.bpg_writer.proofs.file.encoded.Tie as tie
 absent : {t : Bool} {h : Header} {b : BitBuffer} → t ≡ false → Encoded t h b
 absent e = record { is = λ there. absurd (true≢false (sym there ∙ e)); short = λ there. absurd (true≢false (sym there ∙ e)) }
 
-empty-requires : tie.Need-empty-requires
-empty-requires c κs = search needs
-
 returns : tie.Need-returns
 returns c = (omega (arith, ap (λ (b : BitBuffer). b .len .0) (c .empty .ensures)), absent (not-true _ (c .before .if1 .taken)))
-
-encode-requires : tie.Need-encode-requires
-encode-requires c κs = search needs
 
 returns-2 : tie.Need-returns-2
 returns-2 c =
@@ -31,4 +25,4 @@ returns-2 c =
     (omega (arith, ap (λ (b : BitBuffer). b .len .0) (e .0), gathered-most (headerBits (c .before .before .args .header))), record { is = λ there. e .0; short = λ there. e .1 })
 
 pub encoded-spec : {M : Type 1} → statement M
-encoded-spec = tie.close (tie.spec empty-requires returns encode-requires returns-2)
+encoded-spec = tie.close (tie.spec (λ c κs. search needs) returns (λ c κs. search needs) returns-2)

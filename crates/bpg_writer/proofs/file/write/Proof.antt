@@ -1,4 +1,4 @@
--- `file::write` meets its contract. Assumes nothing.
+-- `file::write` meets its contract.
 use mathlib.Core.Path.{_≡_, sym, ap, _∙_, subst}
 use mathlib.Core.Bool.{Bool, true, _||_}
 use mathlib.Core.List.{List}
@@ -95,12 +95,6 @@ module _ (c : tie.After-measure) where
       ap (λ (l : Layout). filePart (r coded) (source (begun coded)) (l .body) (coded .before .encoded .result) (coded .encoded2 .result)) (c .measure .ensures)
       ∙ file-is (r coded) (source (begun coded)) (known (begun coded)) (coded .before .encoded .result) (coded .encoded2 .result) (alpha-encoded coded) (color-encoded coded)
 
-record-requires : tie.Need-record-requires
-record-requires c κs = search needs
-
-written-refused-requires : tie.Need-written-refused-requires
-written-refused-requires c κs = search needs
-
 returns : tie.Need-returns
 returns c =
     let j = c .before .before in
@@ -108,26 +102,8 @@ returns c =
     let a = judged-out (s .args .t1) (s .args .source .now) (s .args .out .now) (j .«record» .result) (j .«record» .ensures) (c .before .if1 .taken) in
     (c .written-refused .ensures ∙ a .0, a .1)
 
-element-copy-out-alpha-header : tie.Need-element-copy-out-alpha-header
-element-copy-out-alpha-header c = search needs
-
-element-copy-out-color-header : tie.Need-element-copy-out-color-header
-element-copy-out-color-header c = search needs
-
-has-alpha-requires : tie.Need-has-alpha-requires
-has-alpha-requires c κs = search needs
-
-encoded-requires : tie.Need-encoded-requires
-encoded-requires c κs = search needs
-
-encoded-requires-2 : tie.Need-encoded-requires-2
-encoded-requires-2 c κs = search needs
-
 measure-requires : tie.Need-measure-requires
 measure-requires c κs = (known (begun c) .few, (c .before .encoded .ensures .0, c .encoded2 .ensures .0))
-
-written-refused-requires-2 : tie.Need-written-refused-requires-2
-written-refused-requires-2 c κs = search needs
 
 returns-2 : tie.Need-returns-2
 returns-2 c =
@@ -135,9 +111,6 @@ returns-2 c =
     let b = begun (coded m) in
     let a = too-long (r (coded m)) (source b) (out b) (passed b) (omega (arith, c .before .if2 .taken, total-is m)) in
     (c .written-refused2 .ensures ∙ a .0, a .1)
-
-written-refused-requires-3 : tie.Need-written-refused-requires-3
-written-refused-requires-3 c κs = search needs
 
 returns-3 : tie.Need-returns-3
 returns-3 c =
@@ -181,9 +154,6 @@ emit-file-requires c κs =
       ),
     )
 
-same-length : tie.Need-same-length
-same-length c = search needs
-
 returns-4 : tie.Need-returns-4
 returns-4 c =
     let w = c .before .before in
@@ -199,19 +169,19 @@ pub write-spec : {M : Type 1} → statement M
 write-spec =
     tie.close
     (tie.spec
-    record-requires
-    written-refused-requires
+    (λ c κs. search needs)
+    (λ c κs. search needs)
     returns
-    element-copy-out-alpha-header
-    element-copy-out-color-header
-    has-alpha-requires
-    encoded-requires
-    encoded-requires-2
+    (λ c. search needs)
+    (λ c. search needs)
+    (λ c κs. search needs)
+    (λ c κs. search needs)
+    (λ c κs. search needs)
     measure-requires
-    written-refused-requires-2
+    (λ c κs. search needs)
     returns-2
-    written-refused-requires-3
+    (λ c κs. search needs)
     returns-3
     emit-file-requires
-    same-length
+    (λ c. search needs)
     returns-4)

@@ -1,4 +1,4 @@
--- `layout::block_size` meets its contract: the size so far is that of the entries so far. Assumes nothing.
+-- `layout::block_size` meets its contract: the size so far is that of the entries so far.
 use mathlib.Core.Path.{_≡_, refl, ap, _∙_}
 use Prim.Native.Nat.{ℕ, _-_, _*_, _≤_}
 use native.Mathlib.Omega.{arith}
@@ -44,9 +44,6 @@ module _ (c : tie.After-size2 Inv-loop μ-loop) where
   length-size : c .size2 .result ≤ 10
   length-size = omega (arith, c .size2 .ensures, size-most (entry .payload .length) (omega arith))
 
-cast-count : tie.Need-cast-count Inv-loop μ-loop
-cast-count c = search needs
-
 loop-holds : tie.Need-loop-holds Inv-loop μ-loop
 loop-holds c = (omega arith, refl, omega arith)
 
@@ -56,18 +53,6 @@ mul-entry c = omega (arith, c .before .before .before .before .pre)
 array-copy-out-entry : tie.Need-array-copy-out-entry Inv-loop μ-loop
 array-copy-out-entry c = omega (arith, c .before .before .before .before .pre)
 
-cast-length : tie.Need-cast-length Inv-loop μ-loop
-cast-length c = search needs
-
-cast-size : tie.Need-cast-size Inv-loop μ-loop
-cast-size c = search needs
-
-size-requires : tie.Need-size-requires Inv-loop μ-loop
-size-requires c κs = search needs
-
-size-requires-2 : tie.Need-size-requires-2 Inv-loop μ-loop
-size-requires-2 c κs = search needs
-
 add-size : tie.Need-add-size Inv-loop μ-loop
 add-size c = omega (arith, tag-size c, length-size c)
 
@@ -76,12 +61,6 @@ add-size-2 c = omega (arith, tag-size c, length-size c)
 
 add-size-3 : tie.Need-add-size-3 Inv-loop μ-loop
 add-size-3 c = omega (arith, tag-size c, length-size c, turn c .loop .inv .2, start c .pre)
-
-add-k : tie.Need-add-k Inv-loop μ-loop
-add-k c = search needs
-
-loop-less : tie.Need-loop-less Inv-loop μ-loop
-loop-less c = omega arith
 
 loop-again : tie.Need-loop-again Inv-loop μ-loop
 loop-again c =
@@ -102,18 +81,18 @@ block-size-spec =
     (tie.spec
     Inv-loop
     μ-loop
-    cast-count
+    (λ c. search needs)
     loop-holds
     mul-entry
     array-copy-out-entry
-    cast-length
-    cast-size
-    size-requires
-    size-requires-2
+    (λ c. search needs)
+    (λ c. search needs)
+    (λ c κs. search needs)
+    (λ c κs. search needs)
     add-size
     add-size-2
     add-size-3
-    add-k
-    loop-less
+    (λ c. search needs)
+    (λ c. omega arith)
     loop-again
     returns)

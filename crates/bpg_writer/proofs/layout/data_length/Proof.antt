@@ -1,4 +1,4 @@
--- `layout::data_length` meets its contract. Assumes nothing.
+-- `layout::data_length` meets its contract.
 use mathlib.Core.Path.{sym}
 use Rattle.bpg_codec.proofs.Select.{select-true, select-false}
 use Rattle.bpg_writer.proofs.layout.data_length.Statement.{statement}

@@ -1,4 +1,4 @@
--- `layout::extension_size` meets its contract. Assumes nothing.
+-- `layout::extension_size` meets its contract.
 use mathlib.Core.Path.{sym, ap, _∙_}
 use Prim.Native.Nat.{ℕ, _+_, _≤_}
 use native.Mathlib.Omega.{arith}
@@ -11,9 +11,6 @@ use Rattle.bpg_writer.proofs.layout.extension_size.Tie as tie
 few : (c : tie.After-size) → c .size .result ≤ 10
 few c = omega (arith, c .size .ensures, size-most (c .before .before .args .block) (omega (arith, c .before .before .pre)))
 
-size-requires : tie.Need-size-requires
-size-requires c κs = search needs
-
 add-result : tie.Need-add-result
 add-result c = omega (arith, few c, c .before .before .pre)
 
@@ -25,4 +22,4 @@ returns-2 : tie.Need-returns-2
 returns-2 c = (sym (select-false _ _ (c .if1 .left)), omega arith)
 
 pub extension-size-spec : {M : Type 1} → statement M
-extension-size-spec = tie.close (tie.spec size-requires add-result returns returns-2)
+extension-size-spec = tie.close (tie.spec (λ c κs. search needs) add-result returns returns-2)

@@ -1,4 +1,4 @@
--- `layout::header_size` meets its contract. Assumes nothing.
+-- `layout::header_size` meets its contract.
 use mathlib.Core.Path.{sym, ap, _∙_}
 use Prim.Native.Nat.{ℕ, _+_, _≤_}
 use native.Mathlib.Omega.{arith}
@@ -12,12 +12,6 @@ use Rattle.bpg_writer.proofs.layout.header_size.Tie as tie
 few : (c : tie.After-size) → c .size .result ≤ 10
 few c = omega (arith, c .size .ensures, size-most (bytesFor (c .before .before .args .bits)) (omega (arith, c .before .before .pre)))
 
-add-bytes : tie.Need-add-bytes
-add-bytes c = search needs
-
-size-requires : tie.Need-size-requires
-size-requires c κs = search needs
-
 add-result : tie.Need-add-result
 add-result c = omega (arith, few c, c .before .before .pre)
 
@@ -29,4 +23,4 @@ returns-2 : tie.Need-returns-2
 returns-2 c = (sym (select-false _ _ (c .if1 .left)), omega arith)
 
 pub header-size-spec : {M : Type 1} → statement M
-header-size-spec = tie.close (tie.spec add-bytes size-requires add-result returns returns-2)
+header-size-spec = tie.close (tie.spec (λ c. search needs) (λ c κs. search needs) add-result returns returns-2)

@@ -1,4 +1,4 @@
--- `layout::measure` meets its contract. Assumes nothing.
+-- `layout::measure` meets its contract.
 use Prim.Native.Nat.{_+_, _^_, _≤_, _<_}
 use native.Mathlib.Omega.{arith}
 use Rattle.bpg_numbers.proofs.Ue7Laws.{size-most}
@@ -38,50 +38,8 @@ module _ (c : tie.After-size3) where
   sum-fits =
       omega (arith, width-size both, height-size both, data-size, extension .extension-size .ensures .1, alpha .header-size .ensures .1, color .header-size2 .ensures .1, c .before .before .before .before .before .before .struct-known .given)
 
-block-size-requires : tie.Need-block-size-requires
-block-size-requires c κs = search needs
-
-extension-size-requires : tie.Need-extension-size-requires
-extension-size-requires c κs = search needs
-
-has-alpha-requires : tie.Need-has-alpha-requires
-has-alpha-requires c κs = search needs
-
-header-size-requires : tie.Need-header-size-requires
-header-size-requires c κs = search needs
-
-header-size-requires-2 : tie.Need-header-size-requires-2
-header-size-requires-2 c κs = search needs
-
-add-headers : tie.Need-add-headers
-add-headers c = search needs
-
-cast-body : tie.Need-cast-body
-cast-body c = search needs
-
-add-body : tie.Need-add-body
-add-body c = search needs
-
-cast-size : tie.Need-cast-size
-cast-size c = search needs
-
-size-requires : tie.Need-size-requires
-size-requires c κs = search needs
-
-cast-size-2 : tie.Need-cast-size-2
-cast-size-2 c = search needs
-
-size-requires-2 : tie.Need-size-requires-2
-size-requires-2 c κs = search needs
-
 add-size : tie.Need-add-size
 add-size c = omega (arith, width-size c, height-size c)
-
-data-length-requires : tie.Need-data-length-requires
-data-length-requires c κs = search needs
-
-size-requires-3 : tie.Need-size-requires-3
-size-requires-3 c κs = search needs
 
 add-size-2 : tie.Need-add-size-2
 add-size-2 c = omega (arith, width-size (both c), height-size (both c), data-size c)
@@ -106,21 +64,21 @@ pub measure-spec : {M : Type 1} → statement M
 measure-spec =
     tie.close
     (tie.spec
-    block-size-requires
-    extension-size-requires
-    has-alpha-requires
-    header-size-requires
-    header-size-requires-2
-    add-headers
-    cast-body
-    add-body
-    cast-size
-    size-requires
-    cast-size-2
-    size-requires-2
+    (λ c κs. search needs)
+    (λ c κs. search needs)
+    (λ c κs. search needs)
+    (λ c κs. search needs)
+    (λ c κs. search needs)
+    (λ c. search needs)
+    (λ c. search needs)
+    (λ c. search needs)
+    (λ c. search needs)
+    (λ c κs. search needs)
+    (λ c. search needs)
+    (λ c κs. search needs)
     add-size
-    data-length-requires
-    size-requires-3
+    (λ c κs. search needs)
+    (λ c κs. search needs)
     add-size-2
     add-t16
     add-t10
