@@ -8,7 +8,8 @@ ghost use lib.ListN.{length};
 ghost use Rattle.bpg_format.specs.Pictures.{canonicalBuffer};
 ghost use Rattle.bpg_canonical.specs.Comparisons.{sameForms, comparisonOf, Compares};
 
-// What canonicalizing answers for each of two files, and whether the files show the same picture: false where one is refused.
+// What canonicalizing answers for each of two files, and whether they show the same picture: false where one is refused, or its
+// buffer too small, even if the pictures are the same.
 pub struct Comparison {
     pub first: Written,
     pub second: Written,

@@ -1,5 +1,5 @@
-// The cursor: it keeps the file up to the end of the extension block, and the offset of the next entry. Each slice and offset has
-// an answer, so no cursor is wrong.
+// The cursor: it keeps the file up to the end of the extension block, and the offset of the next entry. Every slice
+// and offset has an answer.
 use crate::region::region_to;
 use crate::step::Step;
 use crate::step::step_at;

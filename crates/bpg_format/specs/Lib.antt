@@ -1,4 +1,4 @@
--- The BPG format, in document 01's order.
+-- The BPG format: what a file is, what it is read as, what is written, and what is required of the calls.
 pub mod Limits
 pub mod Zero
 pub mod Content

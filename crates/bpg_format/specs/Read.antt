@@ -1,6 +1,6 @@
 -- Reading a file as a content, or refusing it (document 01, "Order of the file" and "Refusal numbers": reading order), as one chain of steps,
 -- each refusal with its number and place. A step is given its offset p and what is left of its region, l; it gives its value, the offset
--- after it (`next`) and what is then left (`rest`). `ue7Decode` refuses with 2, 7 or 8 at p, `unsignedDecode` and `expGolombDecode` with 15.
+-- after it (`next`) and what is then left (`rest`). `ue7Decode` refuses with 2, 7 or 8 at p, `unsignedDecode` and `expGolombDecode` with 15 at `item`.
 use mathlib.Core.Bool.{Bool, false, not, _&&_, _||_}
 use mathlib.Core.List.{List, [], _∷_}
 use Prim.Native.Nat.{ℕ, zero, suc, _+_, _*_, _/_, _%_}
@@ -20,7 +20,7 @@ use Rattle.bpg_format.specs.Syntax.{magic}
 use Rattle.bpg_format.specs.Rules.{isLoop, hasLoop, noLoop}
 use Rattle.bpg_format.specs.Tests.{colorSpaceAllowed, countsBody, noForbiddenBit, hevcAllowed}
 
--- what a flag leaves out has this value, and takes no place
+-- what a flag leaves out has this value, and takes no bytes
 abbrev pub ifPresent : {S A : Type 0} → (present : Bool) (absent : A) → ((p : ℕ) → List S → Outcome (Decoded S A)) → (p : ℕ) → List S → Outcome (Decoded S A)
 ifPresent present absent read p l = select present (read p l) (ok (decoded absent p l))
 
