@@ -15,12 +15,12 @@ use Rattle.bpg_numbers.specs.Ue7.{ue7Bytes}
 use Rattle.bpg_format.specs.declared.record.Entry.{Entry}
 use Rattle.bpg_format.specs.declared.record.Header.{Header}
 use Rattle.bpg_format.specs.Zero.{range, zeroEntry}
-use Rattle.bpg_format.specs.Content.{isEmpty, hasAlpha, Extension, Loop, Content}
-use Rattle.bpg_format.specs.Rules.{isLoop, ExtensionRules, Rules}
+use Rattle.bpg_format.specs.Content.{isEmpty, hasAlpha, Extension, AnimationControl, Content}
+use Rattle.bpg_format.specs.Rules.{isAnimation, ExtensionRules, Rules}
 use Rattle.bpg_format.specs.Syntax.{fileOf}
 use Rattle.bpg_format.specs.Records.{bytesIn, extensionOf, usedEntries, recordOf, contentOf}
 use Rattle.bpg_format.specs.Write.{Writable}
-use Rattle.bpg_format.specs.Pictures.{pictureHeader, headerWith, needsRange, pictureEntry, loopBytes, entryWith, pictureOf, withChoices, canonicalContent, canonicalBytes}
+use Rattle.bpg_format.specs.Pictures.{pictureHeader, headerWith, needsRange, pictureEntry, animationBytes, entryWith, pictureOf, withChoices, canonicalContent, canonicalBytes}
 use Rattle.bpg_format.proofs.RecordLaws.{content-record}
 use Rattle.bpg_format.proofs.Writing.{record-writable}
 use Rattle.bpg_format.proofs.CanonicalLaws.{canonical-rules}
@@ -31,11 +31,11 @@ use Rattle.bpg_choices.proofs.RecordLaws.{take-changed, drop-changed}
 
 -- ---- an entry
 
-module _ (file : List ℕ) (p : Loop) where
+module _ (file : List ℕ) (p : AnimationControl) where
   abbrev size : ℕ
   size = length (ue7Bytes (p .count)) + length (ue7Bytes (p .periodNum)) + length (ue7Bytes (p .periodDen))
 
-  loop-size : length (loopBytes p []) ≡ size
+  loop-size : length (animationBytes p []) ≡ size
   loop-size =
       let a = ue7Bytes (p .count) in
       let b = ue7Bytes (p .periodNum) in
@@ -44,24 +44,24 @@ module _ (file : List ℕ) (p : Loop) where
 
   -- a tag 5 payload begins with the three numbers
   module _ (l dummy : List ℕ) (is : l ≡ ue7Bytes (p .count) ++ (ue7Bytes (p .periodNum) ++ (ue7Bytes (p .periodDen) ++ dummy))) where
-    in-two : l ≡ loopBytes p [] ++ dummy
+    in-two : l ≡ animationBytes p [] ++ dummy
     in-two = is ∙ simp (append-assoc, append-nil)
 
-    first-part : take size l ≡ loopBytes p []
-    first-part = ap₂ (λ (n : ℕ) (m : List ℕ). take n m) (sym loop-size) in-two ∙ take-append-seam (loopBytes p []) dummy
+    first-part : take size l ≡ animationBytes p []
+    first-part = ap₂ (λ (n : ℕ) (m : List ℕ). take n m) (sym loop-size) in-two ∙ take-append-seam (animationBytes p []) dummy
 
     size-most : size ≤ length l
-    size-most = omega (arith, ap length in-two, length-append (loopBytes p []) dummy, loop-size)
+    size-most = omega (arith, ap length in-two, length-append (animationBytes p []) dummy, loop-size)
 
   module _ (e : Entry) (rules : ExtensionRules p (extensionOf file e)) (inside : RangeInside (length file) e) where
-    shorter : isLoop (extensionOf file e) ≡ true → size ≤ e .payload .length
+    shorter : isAnimation (extensionOf file e) ≡ true → size ≤ e .payload .length
     shorter t =
-        let d = rules .loop t in
+        let d = rules .control t in
         omega (arith, size-most (bytesIn file (e .payload)) (d .0) (d .1 .is), range-length file (e .payload) inside)
 
-    loop-payload : isLoop (extensionOf file e) ≡ true → bytesIn file (range (e .payload .start) size) ≡ loopBytes p []
+    loop-payload : isAnimation (extensionOf file e) ≡ true → bytesIn file (range (e .payload .start) size) ≡ animationBytes p []
     loop-payload t =
-        let d = rules .loop t in
+        let d = rules .control t in
         sym (take-take size (e .payload .length) (drop (e .payload .start) file) (shorter t)) ∙ first-part (bytesIn file (e .payload)) (d .0) (d .1 .is)
 
     entry-content : extensionOf file (canonicalEntry size e) ≡ entryWith p [] (pictureEntry (extensionOf file e))
@@ -70,11 +70,11 @@ module _ (file : List ℕ) (p : Loop) where
         by : (t : Bool) → eqb (e .tag) 5 ≡ t → extensionOf file (canonicalEntry size e) ≡ entryWith p [] (pictureEntry (extensionOf file e))
         by true w =
             ap (extensionOf file) (select-true (record { tag = e .tag; payload = range (e .payload .start) size }) e w)
-            ∙ ap (λ (x : List ℕ). record { tag = e .tag; payload = x }) (loop-payload w ∙ sym (select-true (loopBytes p []) (pictureEntry (extensionOf file e) .payload) w))
+            ∙ ap (λ (x : List ℕ). record { tag = e .tag; payload = x }) (loop-payload w ∙ sym (select-true (animationBytes p []) (pictureEntry (extensionOf file e) .payload) w))
         by false w =
             ap (extensionOf file) (select-false (record { tag = e .tag; payload = range (e .payload .start) size }) e w)
             ∙ ap (λ (x : List ℕ). record { tag = e .tag; payload = x })
-            (sym (select-false (loopBytes p []) (pictureEntry (extensionOf file e) .payload) w ∙ select-false [] (bytesIn file (e .payload)) w))
+            (sym (select-false (animationBytes p []) (pictureEntry (extensionOf file e) .payload) w ∙ select-false [] (bytesIn file (e .payload)) w))
 
     entry-inside : RangeInside (length file) (canonicalEntry size e)
     entry-inside = by (eqb (e .tag) 5) refl
@@ -133,15 +133,15 @@ module _ (c : Content) (r : Rules c) where
   unfolding contentOf
   data-is = ap (λ (d : Content). d .hevcData) (content-record c r)
 
-  known : All (ExtensionRules (c .loop)) (map (extensionOf file) used)
-  known = subst (All (ExtensionRules (c .loop))) (sym extensions-are) (r .entries)
+  known : All (ExtensionRules (c .control)) (map (extensionOf file) used)
+  known = subst (All (ExtensionRules (c .control))) (sym extensions-are) (r .entries)
 
-  extensions-canonical : map (extensionOf file) (usedEntries (canonicalRecord (recordOf c))) ≡ map (entryWith (c .loop) []) (map pictureEntry (c .extensions))
+  extensions-canonical : map (extensionOf file) (usedEntries (canonicalRecord (recordOf c))) ≡ map (entryWith (c .control) []) (map pictureEntry (c .extensions))
   unfolding recordOf
   extensions-canonical =
       ap (map (extensionOf file)) (take-changed (canonicalEntry (loopSize (recordOf c))) (recordOf c .entries) (length (c .extensions)))
-      ∙ entries-content file (c .loop) used known (original .payloads)
-      ∙ ap (λ (l : List Extension). map (entryWith (c .loop) []) (map pictureEntry l)) extensions-are
+      ∙ entries-content file (c .control) used known (original .payloads)
+      ∙ ap (λ (l : List Extension). map (entryWith (c .control) []) (map pictureEntry l)) extensions-are
 
   alpha-range : NoRange (c .alphaHeader)
   alpha-range = by (hasAlpha (c .flags)) refl
@@ -170,7 +170,7 @@ module _ (c : Content) (r : Rules c) where
         height = c .height;
         explicitLength = false;
         extensions = extensions-canonical z;
-        loop = c .loop;
+        control = c .control;
         alphaHeader = header-content (c .alphaHeader) alpha-range z;
         colorHeader = header-content (c .colorHeader) (r .color-header .fields .no-range) z;
         hevcData = data-is z;
@@ -183,7 +183,7 @@ module _ (c : Content) (r : Rules c) where
       let g = canonicalEntry (loopSize (recordOf c)) in
       record {
         few = r .entry-limit;
-        payloads = subst (All (RangeInside (length file))) (sym (take-changed g (recordOf c .entries) (length (c .extensions)))) (entries-inside file (c .loop) used known (original .payloads));
+        payloads = subst (All (RangeInside (length file))) (sym (take-changed g (recordOf c .entries) (length (c .extensions)))) (entries-inside file (c .control) used known (original .payloads));
         data-range = original .data-range;
         unused = subst (All (λ (e : Entry). e ≡ zeroEntry)) (sym (drop-changed g (recordOf c .entries) (length (c .extensions)))) (original .unused);
         rules = subst Rules (sym canonical-content) (canonical-rules c r);

@@ -23,7 +23,7 @@ use Rattle.bpg_format.specs.Read.{readContent, ReadingStatus}
 use Rattle.bpg_format.specs.Records.{recordOf, answerOf, readFile}
 use Rattle.bpg_format.specs.Write.{sizedFile, writeOutcome, writtenAnswer, writtenBuffer, writeFile, writeBuffer, checkRecord}
 use Rattle.bpg_format.specs.Pictures.{canonicalContent, canonicalBytes, canonicalOutcome, canonicalFile, canonicalBuffer}
-use Rattle.bpg_format.proofs.Reading.{read-is}
+use Rattle.bpg_format.proofs.ReadingLaws.{read-is}
 use Rattle.bpg_format.proofs.ReadingRefusals.{content-refuses}
 use Rattle.bpg_format.proofs.CanonicalLaws.{canonical-rules}
 use Rattle.bpg_format.proofs.Writing.{written-full, write-checks}

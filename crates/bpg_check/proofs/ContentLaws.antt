@@ -15,9 +15,9 @@ use Rattle.bpg_codec.proofs.Refusals.{refuses-ok, refuses-select}
 use Rattle.bpg_numbers.specs.Ue7.{notZero}
 use Rattle.bpg_format.specs.declared.record.Record.{Record}
 use Rattle.bpg_format.specs.Zero.{zeroHeader}
-use Rattle.bpg_format.specs.Rules.{hasLoop}
+use Rattle.bpg_format.specs.Rules.{hasAnimation}
 use Rattle.bpg_format.specs.Tests.{colorSpaceAllowed}
-use Rattle.bpg_format.specs.Records.{extensionOf, usedEntries, contentOf, recordLoop}
+use Rattle.bpg_format.specs.Records.{extensionOf, usedEntries, contentOf, recordAnimation}
 use Rattle.bpg_format.specs.Write.{checkEntries, checkHeader, checkContent}
 use Rattle.bpg_format.proofs.WritingRefusals.{AtZero, R, rule, last-rule, header-check, entries-check}
 use Rattle.bpg_check.specs.Check.{statusOf, checkPicture, checkAlpha, checkHeaders}
@@ -101,7 +101,7 @@ module _ (r : Record) (source : List ℕ) where
   depth = r .«bit_depth_minus_8» + 8
 
   abbrev pub controlled : Bool
-  controlled = not (r .«animation_flag») || hasLoop (map (extensionOf source) (usedEntries r))
+  controlled = not (r .«animation_flag») || hasAnimation (map (extensionOf source) (usedEntries r))
 
   pub control-missing : controlled ≡ false → 14 ≡ statusOf (checkHeaders (contentOf r source))
   unfolding checkHeaders contentOf
@@ -125,7 +125,7 @@ module _ (r : Record) (source : List ℕ) where
 
 module _ (r : Record) (source : List ℕ) where
   abbrev entries : Outcome (Unit {0})
-  entries = checkEntries (recordLoop r) false (map (extensionOf source) (usedEntries r))
+  entries = checkEntries (recordAnimation r) false (map (extensionOf source) (usedEntries r))
 
   abbrev picture : Outcome (Unit {0})
   picture = checkPicture (contentOf r source)
@@ -151,4 +151,4 @@ module _ (r : Record) (source : List ℕ) where
 
         pub headers-decide : (u : ℕ) → t ≡ 0 → u ≡ statusOf headers → u ≡ statusOf (checkContent (contentOf r source))
         headers-decide u y e =
-            e ∙ sym (goes-on entries (entries-check (recordLoop r) false (map (extensionOf source) (usedEntries r))) headers (sym are ∙ y)) ∙ sym after-picture
+            e ∙ sym (goes-on entries (entries-check (recordAnimation r) false (map (extensionOf source) (usedEntries r))) headers (sym are ∙ y)) ∙ sym after-picture

@@ -16,16 +16,16 @@ use Rattle.bpg_codec.proofs.Refusals.{refuses-ok, refuses-select}
 use Rattle.bpg_format.specs.Limits.{maxEntries}
 use Rattle.bpg_format.specs.declared.record.Entry.{Entry}
 use Rattle.bpg_format.specs.declared.record.Record.{Record}
-use Rattle.bpg_format.specs.Content.{Extension, Loop}
-use Rattle.bpg_format.specs.Rules.{isLoop, hasLoop}
-use Rattle.bpg_format.specs.Read.{readLoop}
+use Rattle.bpg_format.specs.Content.{Extension, AnimationControl}
+use Rattle.bpg_format.specs.Rules.{isAnimation, hasAnimation}
+use Rattle.bpg_format.specs.Read.{readAnimation}
 use Rattle.bpg_format.specs.Records.{extensionOf, usedEntries}
-use Rattle.bpg_format.specs.Write.{inSource, entriesInSource, rangesInSource, isZero, zeroEntries, unusedZero, sameLoop, atZero, checkLoop, checkEntries, WritingStatus}
+use Rattle.bpg_format.specs.Write.{inSource, entriesInSource, rangesInSource, isZero, zeroEntries, unusedZero, sameAnimation, atZero, checkAnimation, checkEntries, WritingStatus}
 use Rattle.bpg_format.proofs.RuleLaws.{bool-apart}
 use Rattle.bpg_format.proofs.WritingRefusals.{AtZero, R, rule, loop-check}
 use Rattle.bpg_entries.specs.declared.animation.Animation.{Animation}
 use Rattle.bpg_entries.specs.Animations.{animationAnswer}
-use Rattle.bpg_check.specs.Check.{statusOf, animationLoop, checkEntry}
+use Rattle.bpg_check.specs.Check.{statusOf, animationNumbers, checkEntry}
 use Rattle.bpg_check.proofs.StatusLaws.{stops, goes-on}
 
 -- ---- the next entry
@@ -92,62 +92,62 @@ unused-begins r = refl
 -- ---- an entry with tag 5
 
 module _ (source : List ℕ) (es : List Entry) (n k : ℕ)
-    (rest : hasLoop (map (extensionOf source) (drop k (take n es))) ≡ hasLoop (map (extensionOf source) (take n es))) where
+    (rest : hasAnimation (map (extensionOf source) (drop k (take n es))) ≡ hasAnimation (map (extensionOf source) (take n es))) where
   module _ (d : Entry) (most : n ≤ length es) (h : k < n) where
-    pub control-found : getD es k d .tag ≡ 5 → true ≡ hasLoop (map (extensionOf source) (take n es))
+    pub control-found : getD es k d .tag ≡ 5 → true ≡ hasAnimation (map (extensionOf source) (take n es))
     control-found e = rw (used-next es n k d h most, eq-eqb _ _ e) at rest
 
-    pub control-further : getD es k d .tag ≢ 5 → hasLoop (map (extensionOf source) (drop (k + 1) (take n es))) ≡ hasLoop (map (extensionOf source) (take n es))
+    pub control-further : getD es k d .tag ≢ 5 → hasAnimation (map (extensionOf source) (drop (k + 1) (take n es))) ≡ hasAnimation (map (extensionOf source) (take n es))
     control-further e = rw (used-next es n k d h most, ne-eqb _ _ e) at rest
 
-  pub no-control : n ≤ k → false ≡ hasLoop (map (extensionOf source) (take n es))
+  pub no-control : n ≤ k → false ≡ hasAnimation (map (extensionOf source) (take n es))
   no-control h = rw (used-end es n k h) at rest
 
 -- ---- the loop numbers
 
 -- a payload of tag 5, by what is read of it
-module _ (p : Loop) (l : List ℕ) where
-  abbrev checked : Outcome Loop → Outcome (Unit {0})
-  checked m = atZero m >>= λ x. guard (sameLoop p x) 19 0
+module _ (p : AnimationControl) (l : List ℕ) where
+  abbrev checked : Outcome AnimationControl → Outcome (Unit {0})
+  checked m = atZero m >>= λ x. guard (sameAnimation p x) 19 0
 
-  as-checked : (m : Outcome Loop) → readLoop 0 l ≡ m → checkLoop p l ≡ checked m
-  unfolding checkLoop
+  as-checked : (m : Outcome AnimationControl) → readAnimation 0 l ≡ m → checkAnimation p l ≡ checked m
+  unfolding checkAnimation
   as-checked m e = rw e
 
-  module _ (a : Animation) (e : a ≡ animationAnswer (readLoop 0 l)) where
+  module _ (a : Animation) (e : a ≡ animationAnswer (readAnimation 0 l)) where
     -- the numbers were read, or the payload is refused
-    read-or-refused : {P : Type 0} → ((x : Loop) → checkLoop p l ≡ checked (ok x) → a ≡ animationAnswer (ok x) → P)
-        → ((s o : ℕ) → checkLoop p l ≡ error s 0 → a ≡ animationAnswer (error s o) → P) → P
-    read-or-refused {P} g h = by (readLoop 0 l) refl e
+    read-or-refused : {P : Type 0} → ((x : AnimationControl) → checkAnimation p l ≡ checked (ok x) → a ≡ animationAnswer (ok x) → P)
+        → ((s o : ℕ) → checkAnimation p l ≡ error s 0 → a ≡ animationAnswer (error s o) → P) → P
+    read-or-refused {P} g h = by (readAnimation 0 l) refl e
       where
-        by : (m : Outcome Loop) → readLoop 0 l ≡ m → a ≡ animationAnswer m → P
+        by : (m : Outcome AnimationControl) → readAnimation 0 l ≡ m → a ≡ animationAnswer m → P
         by (ok x) d f = g x (as-checked (ok x) d) f
         by (error s o) d f = h s o (as-checked (error s o) d) f
 
-    pub payload-refused : a .status ≢ 0 → a .status ≡ statusOf (checkLoop p l)
+    pub payload-refused : a .status ≢ 0 → a .status ≡ statusOf (checkAnimation p l)
     payload-refused n = read-or-refused (λ x c f. absurd (n (λ i. f i .status))) (λ s o c f. (λ i. f i .status) ∙ sym (ap statusOf c))
 
     module _ (z : a .status ≡ 0) where
       -- the refusals are not 0
-      decided : (t : Bool) → sameLoop p (animationLoop a) ≡ t → statusOf (guard t 19 0) ≡ statusOf (checkLoop p l)
+      decided : (t : Bool) → sameAnimation p (animationNumbers a) ≡ t → statusOf (guard t 19 0) ≡ statusOf (checkAnimation p l)
       decided t s =
-          read-or-refused (λ x c f. sym (rw (c, sym (λ i. sameLoop p (animationLoop (f i))) ∙ s)))
+          read-or-refused (λ x c f. sym (rw (c, sym (λ i. sameAnimation p (animationNumbers (f i))) ∙ s)))
           (λ s o c f. absurd (subst WritingStatus (sym (ap (λ (y : Animation). y .status) f) ∙ z) (loop-check p l s 0 c .0)))
 
-      pub loop-differs : sameLoop p (animationLoop a) ≡ false → 19 ≡ statusOf (checkLoop p l)
+      pub loop-differs : sameAnimation p (animationNumbers a) ≡ false → 19 ≡ statusOf (checkAnimation p l)
       loop-differs s = decided false s
 
-      pub loop-same : sameLoop p (animationLoop a) ≡ true → 0 ≡ statusOf (checkLoop p l)
+      pub loop-same : sameAnimation p (animationNumbers a) ≡ true → 0 ≡ statusOf (checkAnimation p l)
       loop-same s = decided true s
 
 -- ---- one entry
 
-module _ (p : Loop) (seen : Bool) (e : Extension) where
+module _ (p : AnimationControl) (seen : Bool) (e : Extension) where
   entry-refuses : R (checkEntry p seen e)
   unfolding checkEntry
   entry-refuses =
-      rule (not (seen && isLoop e)) 13 _ (omega arith)
-      (refuses-select AtZero (isLoop e) (checkLoop p (e .payload)) (ok tt) (loop-check p (e .payload)) (refuses-ok AtZero tt))
+      rule (not (seen && isAnimation e)) 13 _ (omega arith)
+      (refuses-select AtZero (isAnimation e) (checkAnimation p (e .payload)) (ok tt) (loop-check p (e .payload)) (refuses-ok AtZero tt))
 
   pub other-tag : e .tag ≢ 5 → 0 ≡ statusOf (checkEntry p seen e)
   unfolding checkEntry
@@ -158,18 +158,18 @@ module _ (p : Loop) (seen : Bool) (e : Extension) where
     unfolding checkEntry
     second-control s = rw (eq-eqb _ _ tag, s)
 
-    pub first-control : (n : ℕ) → seen ≡ false → n ≡ statusOf (checkLoop p (e .payload)) → n ≡ statusOf (checkEntry p seen e)
+    pub first-control : (n : ℕ) → seen ≡ false → n ≡ statusOf (checkAnimation p (e .payload)) → n ≡ statusOf (checkEntry p seen e)
     unfolding checkEntry
     first-control n s h = h ∙ rw (eq-eqb _ _ tag, s, select-true)
 
 -- ---- one after another
 
-one-more : (p : Loop) (seen : Bool) (e : Extension) (es : List Extension)
-    → checkEntries p seen (e ∷ es) ≡ (checkEntry p seen e >>= λ _. checkEntries p (seen || isLoop e) es)
+one-more : (p : AnimationControl) (seen : Bool) (e : Extension) (es : List Extension)
+    → checkEntries p seen (e ∷ es) ≡ (checkEntry p seen e >>= λ _. checkEntries p (seen || isAnimation e) es)
 unfolding checkEntries checkEntry
 one-more p seen e es = simp bind-assoc
 
-module _ (p : Loop) (source : List ℕ) (es : List Entry) (n : ℕ) (seen : Bool) (k : ℕ)
+module _ (p : AnimationControl) (source : List ℕ) (es : List Entry) (n : ℕ) (seen : Bool) (k : ℕ)
     (rest : statusOf (checkEntries p seen (map (extensionOf source) (drop k (take n es)))) ≡ statusOf (checkEntries p false (map (extensionOf source) (take n es)))) where
   abbrev total : ℕ
   total = statusOf (checkEntries p false (map (extensionOf source) (take n es)))
@@ -179,7 +179,7 @@ module _ (p : Loop) (source : List ℕ) (es : List Entry) (n : ℕ) (seen : Bool
     new = extensionOf source (getD es k d)
 
     abbrev left : Outcome (Unit {0})
-    left = checkEntries p (seen || isLoop new) (map (extensionOf source) (drop (k + 1) (take n es)))
+    left = checkEntries p (seen || isAnimation new) (map (extensionOf source) (drop (k + 1) (take n es)))
 
     step : statusOf (checkEntry p seen new >>= λ _. left) ≡ total
     step = rw (used-next es n k d h most, one-more) at rest
@@ -187,7 +187,7 @@ module _ (p : Loop) (source : List ℕ) (es : List Entry) (n : ℕ) (seen : Bool
     pub entry-stops : s ≢ 0 → s ≡ total
     entry-stops z = is ∙ stops (checkEntry p seen new) (λ _. left) (λ e. z (is ∙ e)) ∙ step
 
-    pub entry-goes-on : (t : Bool) → s ≡ 0 → t ≡ (seen || isLoop new) → statusOf (checkEntries p t (map (extensionOf source) (drop (k + 1) (take n es)))) ≡ total
+    pub entry-goes-on : (t : Bool) → s ≡ 0 → t ≡ (seen || isAnimation new) → statusOf (checkEntries p t (map (extensionOf source) (drop (k + 1) (take n es)))) ≡ total
     entry-goes-on t z e = rw e (sym (goes-on (checkEntry p seen new) (entry-refuses p seen new) left (sym is ∙ z)) ∙ step)
 
   pub entries-done : n ≤ k → 0 ≡ total

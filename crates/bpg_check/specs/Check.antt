@@ -9,10 +9,10 @@ use Rattle.bpg_codec.specs.Outcome.{Outcome, ok, error, _>>=_, guard}
 use Rattle.bpg_numbers.specs.Ue7.{notZero}
 use Rattle.bpg_format.specs.declared.record.Record.{Record}
 use Rattle.bpg_format.specs.Zero.{zeroHeader}
-use Rattle.bpg_format.specs.Content.{Extension, Loop, Content, hasAlpha, bitDepth}
-use Rattle.bpg_format.specs.Rules.{isLoop, hasLoop}
+use Rattle.bpg_format.specs.Content.{Extension, AnimationControl, Content, hasAlpha, bitDepth}
+use Rattle.bpg_format.specs.Rules.{isAnimation, hasAnimation}
 use Rattle.bpg_format.specs.Tests.{colorSpaceAllowed}
-use Rattle.bpg_format.specs.Write.{checkLoop, checkHeader, checkRecord}
+use Rattle.bpg_format.specs.Write.{checkAnimation, checkHeader, checkRecord}
 use Rattle.bpg_entries.specs.declared.animation.Animation.{Animation}
 
 -- 0, or the error's status
@@ -25,14 +25,14 @@ checkStatus r source = statusOf (checkRecord r source)
 
 -- ---- the parts that functions of their own judge
 
-abbrev pub animationLoop : Animation → Loop
-animationLoop a = record { count = a .«loop_count»; periodNum = a .«frame_period_num»; periodDen = a .«frame_period_den» }
+abbrev pub animationNumbers : Animation → AnimationControl
+animationNumbers a = record { count = a .«loop_count»; periodNum = a .«frame_period_num»; periodDen = a .«frame_period_den» }
 
 -- what `checkEntries` does with one entry
-unfoldable pub checkEntry : Loop → (seen : Bool) → Extension → Outcome (Unit {0})
+unfoldable pub checkEntry : AnimationControl → (seen : Bool) → Extension → Outcome (Unit {0})
 checkEntry p seen e =
-    guard (not (seen && isLoop e)) 13 0 >>= λ _.
-    select (isLoop e) (checkLoop p (e .payload)) (ok tt)
+    guard (not (seen && isAnimation e)) 13 0 >>= λ _.
+    select (isAnimation e) (checkAnimation p (e .payload)) (ok tt)
 
 -- `checkContent` before the entries
 unfoldable pub checkPicture : Content → Outcome (Unit {0})
@@ -50,6 +50,6 @@ checkAlpha depth r = select (r .«alpha1_flag» || r .«alpha2_flag») (checkHea
 -- `checkContent` after the entries
 unfoldable pub checkHeaders : Content → Outcome (Unit {0})
 checkHeaders c =
-    guard (not (c .flags .animation) || hasLoop (c .extensions)) 14 0 >>= λ _.
+    guard (not (c .flags .animation) || hasAnimation (c .extensions)) 14 0 >>= λ _.
     select (hasAlpha (c .flags)) (checkHeader (bitDepth (c .flags)) (c .alphaHeader)) (ok tt) >>= λ _.
     checkHeader (bitDepth (c .flags)) (c .colorHeader)

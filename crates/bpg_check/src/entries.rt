@@ -11,10 +11,10 @@ ghost use mathlib.Core.Bool.{true, false};
 ghost use mathlib.Core.List.{List, map};
 ghost use Prim.Native.Nat.{ℕ, _≤_};
 ghost use Rattle.bpg_format.specs.Limits.{maxEntries};
-ghost use Rattle.bpg_format.specs.Rules.{hasLoop};
-ghost use Rattle.bpg_format.specs.Records.{bytesIn, extensionOf, usedEntries, recordLoop};
-ghost use Rattle.bpg_format.specs.Write.{inSource, entriesInSource, isZero, unusedZero, sameLoop, checkLoop, checkEntries};
-ghost use Rattle.bpg_check.specs.Check.{statusOf, animationLoop, checkEntry};
+ghost use Rattle.bpg_format.specs.Rules.{hasAnimation};
+ghost use Rattle.bpg_format.specs.Records.{bytesIn, extensionOf, usedEntries, recordAnimation};
+ghost use Rattle.bpg_format.specs.Write.{inSource, entriesInSource, isZero, unusedZero, sameAnimation, checkAnimation, checkEntries};
+ghost use Rattle.bpg_check.specs.Check.{statusOf, animationNumbers, checkEntry};
 
 fn is_zero(entry: Entry) -> bool
     ensures { λ r. ⌜ r ≡ isZero entry ⌝ }
@@ -42,7 +42,7 @@ pub(crate) fn unused_zero(record: Record) -> bool
 // An entry with tag 5 is in use. No byte of a source matters to it.
 pub(crate) fn has_control(record: Record) -> bool
     requires { ⌜ «record» .«entry_count» ≤ maxEntries ⌝ }
-    ensures { λ r. ⌜ ((source : List ℕ) → r ≡ hasLoop (map (extensionOf source) (usedEntries «record»))) ⌝ }
+    ensures { λ r. ⌜ ((source : List ℕ) → r ≡ hasAnimation (map (extensionOf source) (usedEntries «record»))) ⌝ }
 {
     let entries = record.entries;
     let count = record.entry_count as usize;
@@ -59,7 +59,7 @@ pub(crate) fn has_control(record: Record) -> bool
 
 // The record's loop numbers are these.
 pub fn same_loop(record: Record, animation: Animation) -> bool
-    ensures { λ r. ⌜ r ≡ sameLoop (recordLoop «record») (animationLoop animation) ⌝ }
+    ensures { λ r. ⌜ r ≡ sameAnimation (recordAnimation «record») (animationNumbers animation) ⌝ }
 {
     (record.loop_count == animation.loop_count)
         & ((record.frame_period_num == animation.frame_period_num)
@@ -69,7 +69,7 @@ pub fn same_loop(record: Record, animation: Animation) -> bool
 // The payload of tag 5: its own refusals, then 19 if the record's loop numbers are others.
 fn control_status(record: Record, payload: Range, source: &[u8]) -> u8
     requires { ⌜ inSource (now source) payload ≡ true ⌝ }
-    ensures { λ r. ⌜ r ≡ statusOf (checkLoop (recordLoop «record») (bytesIn (now (source .entry)) payload)) ⌝ }
+    ensures { λ r. ⌜ r ≡ statusOf (checkAnimation (recordAnimation «record») (bytesIn (now (source .entry)) payload)) ⌝ }
 {
     let start = payload.start as usize;
     let end = start + payload.length as usize;
@@ -86,7 +86,7 @@ fn control_status(record: Record, payload: Range, source: &[u8]) -> u8
 // One entry; `seen`: an entry with tag 5 stands before it.
 fn entry_status(record: Record, entry: Entry, seen: bool, source: &[u8]) -> u8
     requires { ⌜ inSource (now source) (entry .payload) ≡ true ⌝ }
-    ensures { λ r. ⌜ r ≡ statusOf (checkEntry (recordLoop «record») seen (extensionOf (now (source .entry)) entry)) ⌝ }
+    ensures { λ r. ⌜ r ≡ statusOf (checkEntry (recordAnimation «record») seen (extensionOf (now (source .entry)) entry)) ⌝ }
 {
     if entry.tag != 5 {
         return 0;
@@ -102,7 +102,7 @@ fn entry_status(record: Record, entry: Entry, seen: bool, source: &[u8]) -> u8
 pub(crate) fn status(record: Record, source: &[u8]) -> u8
     requires { ⌜ «record» .«entry_count» ≤ maxEntries ⌝ }
     requires { ⌜ entriesInSource (now source) (usedEntries «record») ≡ true ⌝ }
-    ensures { λ r. ⌜ r ≡ statusOf (checkEntries (recordLoop «record») false (map (extensionOf (now (source .entry))) (usedEntries «record»))) ⌝ }
+    ensures { λ r. ⌜ r ≡ statusOf (checkEntries (recordAnimation «record») false (map (extensionOf (now (source .entry))) (usedEntries «record»))) ⌝ }
 {
     let entries = record.entries;
     let count = record.entry_count as usize;

@@ -18,13 +18,13 @@ use Rattle.bpg_format.specs.declared.record.Entry.{Entry}
 use Rattle.bpg_format.specs.declared.record.Record.{Record}
 use Rattle.bpg_format.specs.declared.answer.Reading.{Reading}
 use Rattle.bpg_format.specs.Zero.{zeroEntry}
-use Rattle.bpg_format.specs.Content.{Extension, Loop, Content}
-use Rattle.bpg_format.specs.Syntax.{extensionBytes, blockBytes, bodyBytes, fileOf}
+use Rattle.bpg_format.specs.Content.{Extension, AnimationControl, Content}
+use Rattle.bpg_format.specs.Syntax.{extensionBytes, blockBytes, headersAndData, fileOf}
 use Rattle.bpg_format.specs.Rules.{ExtensionRules, Rules}
 use Rattle.bpg_format.specs.Read.{readContent}
 use Rattle.bpg_format.specs.Records.{entriesAt, blockStart, recordOf, usedEntries, answerOf, readFile}
 use Rattle.bpg_format.specs.Parts.{entryOf}
-use Rattle.bpg_format.proofs.Reading.{reads, read-is}
+use Rattle.bpg_format.proofs.ReadingLaws.{reads, read-is}
 use Rattle.bpg_format.proofs.RecordLaws.{beforeEntries, file-entries, before-length, entries-length, used-entries}
 use Rattle.bpg_format.proofs.Requirements.{refusals}
 use Rattle.bpg_entries.specs.Entries.{entryStart}
@@ -157,7 +157,7 @@ module _ (f : List ℕ) (c : Cursor) (p : ℕ) (es : List Extension) (b : Begun 
       ∙ ap (λ (xs : List Entry). EntryAt.Found (getD xs k zeroEntry)) (sym (b .used))
       ∙ sym (answer-found f k h))
 
-tags-fit : (l : Loop) (es : List Extension) → All (ExtensionRules l) es → All (λ (e : Extension). e .tag < 2 ^ 32) es
+tags-fit : (l : AnimationControl) (es : List Extension) → All (ExtensionRules l) es → All (λ (e : Extension). e .tag < 2 ^ 32) es
 tags-fit l [] h = tt
 tags-fit l (e ∷ es) h = (h .0 .tag, tags-fit l es (h .1))
 
@@ -183,7 +183,7 @@ module _ (file : RefT (List ℕ)) (c : Cursor) (new : New file c) where
     block-bounds = ap boundsOf read
 
     region-is : now (c .region) ≡ beforeEntries d ++ blockBytes (d .extensions)
-    region-is = new .bytes ∙ rw (block-bounds, is ∙ file-entries d (rules .absent-block), ← before-length d) (kept (beforeEntries d) (blockBytes (d .extensions)) (bodyBytes d))
+    region-is = new .bytes ∙ rw (block-bounds, is ∙ file-entries d (rules .absent-block), ← before-length d) (kept (beforeEntries d) (blockBytes (d .extensions)) (headersAndData d))
 
     region-short : length (now (c .region)) ≤ maxFile
     region-short = omega (arith, ap length (new .bytes), length-take (blockBounds f .end .0) f, ap length is, rules .size)
@@ -201,7 +201,7 @@ module _ (file : RefT (List ℕ)) (c : Cursor) (new : New file c) where
               record {
                 short = region-short;
                 left = rw (region-is, ← before-length d, drop-append-seam (beforeEntries d) (blockBytes (d .extensions)));
-                fit = tags-fit (d .loop) (d .extensions) (rules .entries);
+                fit = tags-fit (d .control) (d .extensions) (rules .entries);
               };
           used = ap usedEntries record-is ∙ used-entries (blockStart d) (d .extensions);
           count = ap (λ (r : Record). r .«entry_count») record-is;

@@ -67,7 +67,7 @@ abbrev pub entryCount : List ℕ → ℕ
 entryCount f = readFile f .«record» .«entry_count»
 
 -- "yields one entry at a time, as tag and range": call k of `next`, k from 0, gives entry k
-pub record InOrder (file : RefT (List ℕ)) (start : Cursor) : Type 0 where
+pub record Yields (file : RefT (List ℕ)) (start : Cursor) : Type 0 where
   -- "keeps the file with it": the part that `New` names
   pub same-region : (k : ℕ) → after k start .region ≡ start .region
   -- the offset of entry k; after the last it stays, at the end of the block
@@ -85,4 +85,4 @@ pub record InOrder (file : RefT (List ℕ)) (start : Cursor) : Type 0 where
 
 -- of every cursor that `new` makes of a slice of bytes
 abbrev pub EntriesInOrder : Type 0
-EntriesInOrder = (file : RefT (List ℕ)) → All Byte (now file) → (start : Cursor) → New file start → InOrder file start
+EntriesInOrder = (file : RefT (List ℕ)) → All Byte (now file) → (start : Cursor) → New file start → Yields file start

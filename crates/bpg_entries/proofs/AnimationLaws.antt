@@ -1,4 +1,4 @@
--- Reading a tag 5 payload, by what each of its numbers is read as.
+-- ReadSoFar a tag 5 payload, by what each of its numbers is read as.
 use mathlib.Core.Path.{_≡_, _∙_}
 use mathlib.Core.List.{List}
 use Prim.Native.Nat.{ℕ, _^_, _<_}
@@ -14,7 +14,7 @@ use Rattle.bpg_numbers.specs.Answers.{numberAnswer}
 use Rattle.bpg_numbers.proofs.Advances.{ue7-advances, ue7-limit}
 use Rattle.bpg_bytes.specs.Positions.{bytePos}
 use Rattle.bpg_format.specs.FileCodec.{period}
-use Rattle.bpg_format.specs.Read.{readLoop}
+use Rattle.bpg_format.specs.Read.{readAnimation}
 use Rattle.bpg_entries.specs.declared.animation.Animation.{Animation}
 use Rattle.bpg_entries.specs.Animations.{refusedAnimation, animationAnswer}
 
@@ -37,7 +37,7 @@ module _ (region : List ℕ) (p : ℕ) where
 -- ---- the three numbers
 
 abbrev answer : List ℕ → ℕ → Animation
-answer region p = animationAnswer (readLoop p (drop p region))
+answer region p = animationAnswer (readAnimation p (drop p region))
 
 -- each number is an item of its own
 as-chain : (region : List ℕ) (p : ℕ) → answer region p
@@ -46,7 +46,7 @@ as-chain : (region : List ℕ) (p : ℕ) → answer region p
     period .decode (x .next) (x .next) (x .rest) >>= λ y.
     period .decode (y .next) (y .next) (y .rest) >>= λ z.
     ok (record { count = x .value; periodNum = y .value; periodDen = z .value }))
-unfolding readLoop period guarded
+unfolding readAnimation period guarded
 as-chain region p = simp bind-assoc
 
 module _ (region : List ℕ) (p : ℕ) where

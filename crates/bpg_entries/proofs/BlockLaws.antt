@@ -1,4 +1,4 @@
--- Reading the entries of a block one after another.
+-- ReadSoFar the entries of a block one after another.
 use mathlib.Core.Path.{_≡_, refl, sym, ap, ap₂, _∙_}
 use mathlib.Core.Bool.{Bool, true, false, _||_, or-false, or-true}
 use mathlib.Core.Logic.{_≢_}
@@ -19,8 +19,8 @@ use Rattle.bpg_format.specs.declared.record.Entry.{Entry}
 use Rattle.bpg_format.specs.Zero.{range}
 use Rattle.bpg_format.specs.Content.{Extension}
 use Rattle.bpg_format.specs.Syntax.{extensionBytes, blockBytes}
-use Rattle.bpg_format.specs.Rules.{isLoop, hasLoop}
-use Rattle.bpg_format.specs.Read.{readLoop, loopFrom, loopOf, readEntry, readEntries}
+use Rattle.bpg_format.specs.Rules.{isAnimation, hasAnimation}
+use Rattle.bpg_format.specs.Read.{readAnimation, animationFrom, animationOf, readEntry, readEntries}
 use Rattle.bpg_format.specs.Records.{entriesAt, padEntries}
 use Rattle.bpg_format.proofs.FileLaws.{extension-lawful}
 use Rattle.bpg_format.proofs.SyntaxLaws.{extension-encode}
@@ -29,7 +29,7 @@ use Rattle.bpg_format.proofs.RecordLaws.{entries-length}
 use Rattle.bpg_entries.specs.declared.animation.Animation.{Animation}
 use Rattle.bpg_entries.specs.declared.entry.Step.{Step}
 use Rattle.bpg_entries.specs.declared.block.Block.{Block}
-use Rattle.bpg_entries.specs.Animations.{loopAnswer}
+use Rattle.bpg_entries.specs.Animations.{foundAnimation}
 use Rattle.bpg_entries.specs.Blocks.{refusedBlock, blockAnswer, entriesIn}
 use Rattle.bpg_entries.proofs.EntryLaws.{Started, entryOf}
 use Rattle.bpg_entries.proofs.LastEntry.{entries-snoc, bytes-snoc, has-snoc, loop-snoc, pad-snoc}
@@ -48,7 +48,7 @@ module _ (seen : Bool) (p : ℕ) where
   entries-full (x ∷ l) h = refl
 
   entries-step : (m : ℕ) (l : List ℕ) → 0 < length l
-      → readEntries (suc m) seen p l ≡ (readEntry seen p l >>= λ e. readEntries m (seen || isLoop (e .value)) (e .next) (e .rest) >>= λ es. ok (e .value ∷ es))
+      → readEntries (suc m) seen p l ≡ (readEntry seen p l >>= λ e. readEntries m (seen || isAnimation (e .value)) (e .next) (e .rest) >>= λ es. ok (e .value ∷ es))
   unfolding readEntries
   entries-step m [] h = absurd (omega arith)
   entries-step m (x ∷ l) h = refl
@@ -68,23 +68,23 @@ addedBlock b t animated animation =
     }
 
 -- `done` was read from p on, and stands in the block; from `next` on the rest is read
-pub record Reading (region : List ℕ) (p : ℕ) (block : Block) (next : ℕ) : Type 0 where
+pub record ReadSoFar (region : List ℕ) (p : ℕ) (block : Block) (next : ℕ) : Type 0 where
   pub done : List Extension
   pub is : block ≡ blockAnswer p (ok done)
   pub few : length done ≤ maxEntries
   pub at : next ≡ p + length (blockBytes done)
   pub rest : readEntries maxEntries false p (drop p region)
-      ≡ (readEntries (maxEntries - length done) (hasLoop done) next (drop next region) >>= λ es. ok (done ++ es))
+      ≡ (readEntries (maxEntries - length done) (hasAnimation done) next (drop next region) >>= λ es. ok (done ++ es))
 
 nothing : {A : Type 0} (m : Outcome (List A)) → m ≡ (m >>= λ es. ok ([] ++ es))
 nothing (ok es) = refl
 nothing (error s o) = refl
 
-pub begins : (region : List ℕ) (p : ℕ) → Reading region p (refusedBlock 0 0) p
-unfolding loopOf
+pub begins : (region : List ℕ) (p : ℕ) → ReadSoFar region p (refusedBlock 0 0) p
+unfolding animationOf
 begins region p = record { done = []; is = refl; few = omega arith; at = omega arith; rest = nothing (readEntries maxEntries false p (drop p region)) }
 
-module _ (region : List ℕ) (p : ℕ) (block : Block) (next : ℕ) (inv : Reading region p block next) where
+module _ (region : List ℕ) (p : ℕ) (block : Block) (next : ℕ) (inv : ReadSoFar region p block next) where
   abbrev all : Outcome (List Extension)
   all = readEntries maxEntries false p (drop p region)
 
@@ -94,11 +94,11 @@ module _ (region : List ℕ) (p : ℕ) (block : Block) (next : ℕ) (inv : Readi
   pub count-most : block .«entry_count» ≤ maxEntries
   count-most = omega (arith, count, inv .few)
 
-  seen : block .animated ≡ hasLoop (inv .done)
+  seen : block .animated ≡ hasAnimation (inv .done)
   seen = ap (λ (b : Block). b .animated) (inv .is)
 
   all-done : length region ≤ next → all ≡ ok (inv .done)
-  all-done h = inv .rest ∙ rw (drop-of-length-le region h, entries-end (hasLoop (inv .done)) next (maxEntries - length (inv .done)), append-nil)
+  all-done h = inv .rest ∙ rw (drop-of-length-le region h, entries-end (hasAnimation (inv .done)) next (maxEntries - length (inv .done)), append-nil)
 
   pub ends : length region ≤ next → block ≡ blockAnswer p all
   ends h = inv .is ∙ ap (blockAnswer p) (sym (all-done h))
@@ -110,20 +110,20 @@ module _ (region : List ℕ) (p : ℕ) (block : Block) (next : ℕ) (inv : Readi
     all-full : maxEntries ≤ block .«entry_count» → all ≡ error 11 next
     all-full k =
         let none : maxEntries - length (inv .done) ≡ 0 = omega (arith, count) in
-        inv .rest ∙ rw (none, entries-full (hasLoop (inv .done)) next (drop next region) some)
+        inv .rest ∙ rw (none, entries-full (hasAnimation (inv .done)) next (drop next region) some)
 
     pub full : maxEntries ≤ block .«entry_count» → refusedBlock 11 next ≡ blockAnswer p all
     full k = ap (blockAnswer p) (sym (all-full k))
 
     module _ (k : block .«entry_count» < maxEntries) where
       after : Decoded ℕ Extension → Outcome (List Extension)
-      after e = readEntries (maxEntries - (length (inv .done) + 1)) (hasLoop (inv .done) || isLoop (e .value)) (e .next) (e .rest) >>= λ es. ok (inv .done ++ (e .value ∷ es))
+      after e = readEntries (maxEntries - (length (inv .done) + 1)) (hasAnimation (inv .done) || isAnimation (e .value)) (e .next) (e .rest) >>= λ es. ok (inv .done ++ (e .value ∷ es))
 
-      step-seen : all ≡ (readEntry (hasLoop (inv .done)) next (drop next region) >>= after)
+      step-seen : all ≡ (readEntry (hasAnimation (inv .done)) next (drop next region) >>= after)
       unfolding after
       step-seen =
           let more : maxEntries - length (inv .done) ≡ suc (maxEntries - (length (inv .done) + 1)) = omega (arith, count) in
-          inv .rest ∙ rw (more, entries-step (hasLoop (inv .done)) next (maxEntries - (length (inv .done) + 1)) (drop next region) some) (simp bind-assoc)
+          inv .rest ∙ rw (more, entries-step (hasAnimation (inv .done)) next (maxEntries - (length (inv .done) + 1)) (drop next region) some) (simp bind-assoc)
 
       step : all ≡ (readEntry (block .animated) next (drop next region) >>= after)
       step = step-seen ∙ ap (λ (b : Bool). readEntry b next (drop next region) >>= after) (sym seen)
@@ -163,7 +163,7 @@ module _ (region : List ℕ) (p : ℕ) (block : Block) (next : ℕ) (inv : Readi
             ap₂ (λ (k m : ℕ). record { tag = new .tag; payload = range k m } ∷ []) n (sym size-new)
 
         rest-new : all
-            ≡ (readEntries (maxEntries - length (inv .done ++ (new ∷ []))) (hasLoop (inv .done ++ (new ∷ []))) (t .next .0) (drop (t .next .0) region) >>= λ es.
+            ≡ (readEntries (maxEntries - length (inv .done ++ (new ∷ []))) (hasAnimation (inv .done ++ (new ∷ []))) (t .next .0) (drop (t .next .0) region) >>= λ es.
             ok ((inv .done ++ (new ∷ [])) ++ es))
         unfolding after
         rest-new =
@@ -180,8 +180,8 @@ module _ (region : List ℕ) (p : ℕ) (block : Block) (next : ℕ) (inv : Readi
         count-new : block .«entry_count» + 1 ≡ length (inv .done ++ (new ∷ []))
         count-new = omega (arith, count, length-append (inv .done) (new ∷ []))
 
-        module _ (animated : Bool) (animation : Animation) (says : animated ≡ hasLoop (inv .done ++ (new ∷ [])))
-            (said : animation ≡ loopAnswer (loopOf (inv .done ++ (new ∷ [])))) where
+        module _ (animated : Bool) (animation : Animation) (says : animated ≡ hasAnimation (inv .done ++ (new ∷ [])))
+            (said : animation ≡ foundAnimation (animationOf (inv .done ++ (new ∷ [])))) where
           added-new : addedBlock block t animated animation ≡ blockAnswer p (ok (inv .done ++ (new ∷ [])))
           added-new =
               λ z.
@@ -194,18 +194,18 @@ module _ (region : List ℕ) (p : ℕ) (block : Block) (next : ℕ) (inv : Readi
                 animation = said z;
               }
 
-          read-on : Reading region p (addedBlock block t animated animation) (t .next .0)
+          read-on : ReadSoFar region p (addedBlock block t animated animation) (t .next .0)
           read-on =
               record { done = inv .done ++ (new ∷ []); is = added-new; few = omega (arith, count, count-new); at = at-new; rest = rest-new }
 
         -- an entry with tag 5 says what is known of the animation; no other does
-        pub goes-on : t .entry .tag ≢ 5 → Reading region p (addedBlock block t (block .animated) (block .animation)) (t .next .0)
+        pub goes-on : t .entry .tag ≢ 5 → ReadSoFar region p (addedBlock block t (block .animated) (block .animation)) (t .next .0)
         goes-on n =
             let plain = ne-eqb (t .entry .tag) 5 n in
             read-on (block .animated) (block .animation) (rw (has-snoc new (inv .done), plain, or-false) seen)
             (rw (loop-snoc new (inv .done) (λ l. absurd (n (eqb-true (t .entry .tag) 5 l))), plain, select-false) (ap (λ (b : Block). b .animation) (inv .is)))
 
-        pub animates : t .entry .tag ≡ 5 → block .animated ≡ false → (a : Animation) → a ≡ loopAnswer (loopFrom (readLoop 0 (new .payload))) → Reading region p (addedBlock block t true a) (t .next .0)
+        pub animates : t .entry .tag ≡ 5 → block .animated ≡ false → (a : Animation) → a ≡ foundAnimation (animationFrom (readAnimation 0 (new .payload))) → ReadSoFar region p (addedBlock block t true a) (t .next .0)
         animates e first a k =
             let control = eq-eqb (t .entry .tag) 5 e in
             read-on true a (rw (has-snoc new (inv .done), control, or-true)) (rw (loop-snoc new (inv .done) (λ _. sym seen ∙ first), control, select-true) k)

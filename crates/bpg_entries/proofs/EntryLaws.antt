@@ -1,4 +1,4 @@
--- Reading an entry: its start, by the case that it falls into; then its payload, which has loop numbers where its tag is 5.
+-- ReadSoFar an entry: its start, by the case that it falls into; then its payload, which has loop numbers where its tag is 5.
 use mathlib.Core.Path.{_≡_, refl, sym, ap, _∙_, subst}
 use mathlib.Core.Bool.{Bool, true, false, not, _&&_}
 use mathlib.Core.Logic.{_≢_}
@@ -19,15 +19,15 @@ use Rattle.bpg_codec.proofs.Outcome.{ok-injective, unbind, unguard, bind-assoc}
 use Rattle.bpg_codec.proofs.Positions.{left-after, within}
 use Rattle.bpg_numbers.specs.Ue7.{ue7}
 use Rattle.bpg_numbers.proofs.Advances.{ue7-advances}
-use Rattle.bpg_format.specs.Content.{Extension, Loop}
-use Rattle.bpg_format.specs.Rules.{noLoop}
-use Rattle.bpg_format.specs.Read.{readLoop, loopFrom, readEntry, ReadingStatus}
+use Rattle.bpg_format.specs.Content.{Extension, AnimationControl}
+use Rattle.bpg_format.specs.Rules.{noAnimation}
+use Rattle.bpg_format.specs.Read.{readAnimation, animationFrom, readEntry, ReadingStatus}
 use Rattle.bpg_format.proofs.Chain.{entry-chain}
 use Rattle.bpg_format.proofs.RuleLaws.{loop-reads, loop-read}
 use Rattle.bpg_format.proofs.ReadingRefusals.{loop-refuses, extension-refuses}
 use Rattle.bpg_entries.specs.declared.animation.Animation.{Animation}
 use Rattle.bpg_entries.specs.declared.entry.Step.{Step}
-use Rattle.bpg_entries.specs.Animations.{loopAnswer, animationAnswer}
+use Rattle.bpg_entries.specs.Animations.{foundAnimation, animationAnswer}
 use Rattle.bpg_entries.specs.Entries.{EntryHead, entryStart, animationControl, refusedStep, foundStep, stepAnswer}
 
 -- ---- the start of an entry
@@ -57,8 +57,8 @@ module _ (region : List ℕ) (at : ℕ) where
 -- ---- loop numbers
 
 -- they are the same wherever the payload stands
-loop-anywhere : (p : ℕ) (l : List ℕ) → All Byte l → (x : Loop) → readLoop p l ≡ ok x → x ≡ loopFrom (readLoop 0 l)
-loop-anywhere p l b x d = let v = loop-read l b p x d in ap loopFrom (sym (loop-reads l x (v .0) (v .1) 0))
+loop-anywhere : (p : ℕ) (l : List ℕ) → All Byte l → (x : AnimationControl) → readAnimation p l ≡ ok x → x ≡ animationFrom (readAnimation 0 l)
+loop-anywhere p l b x d = let v = loop-read l b p x d in ap animationFrom (sym (loop-reads l x (v .0) (v .1) 0))
 
 -- `seen`: an entry with tag 5 stands before that at p
 module _ (seen : Bool) (p start : ℕ) (l : List ℕ) where
@@ -66,24 +66,24 @@ module _ (seen : Bool) (p start : ℕ) (l : List ℕ) where
     control-refused : a .status ≢ 0 → animationControl seen p start l ≡ error (a .status) (a .offset .0)
     control-refused n = by (animationControl seen p start l) k
       where
-        by : (m : Outcome Loop) → a ≡ animationAnswer m → m ≡ error (a .status) (a .offset .0)
+        by : (m : Outcome AnimationControl) → a ≡ animationAnswer m → m ≡ error (a .status) (a .offset .0)
         by (ok x) k = absurd (n (ap (λ (y : Animation). y .status) k))
         by (error t o) k = ap (λ (y : Animation). error (y .status) (y .offset .0)) (sym k)
 
-    control-read : All Byte l → a .status ≡ 0 → (animationControl seen p start l ≡ ok (loopFrom (readLoop 0 l))) × (seen ≡ false) × (a ≡ loopAnswer (loopFrom (readLoop 0 l)))
-    control-read b z = by seen (readLoop start l) refl k
+    control-read : All Byte l → a .status ≡ 0 → (animationControl seen p start l ≡ ok (animationFrom (readAnimation 0 l))) × (seen ≡ false) × (a ≡ foundAnimation (animationFrom (readAnimation 0 l)))
+    control-read b z = by seen (readAnimation start l) refl k
       where
-        by : (s : Bool) (m : Outcome Loop) → readLoop start l ≡ m → a ≡ animationAnswer (guard (not s) 13 p >>= λ _. m)
-            → ((guard (not s) 13 p >>= λ _. m) ≡ ok (loopFrom (readLoop 0 l))) × (s ≡ false) × (a ≡ loopAnswer (loopFrom (readLoop 0 l)))
+        by : (s : Bool) (m : Outcome AnimationControl) → readAnimation start l ≡ m → a ≡ animationAnswer (guard (not s) 13 p >>= λ _. m)
+            → ((guard (not s) 13 p >>= λ _. m) ≡ ok (animationFrom (readAnimation 0 l))) × (s ≡ false) × (a ≡ foundAnimation (animationFrom (readAnimation 0 l)))
         by true m d k = absurd (omega (arith, ap (λ (y : Animation). y .status) k))
-        by false (ok x) d k = let e = loop-anywhere start l b x d in (ap ok e, refl, k ∙ ap loopAnswer e)
+        by false (ok x) d k = let e = loop-anywhere start l b x d in (ap ok e, refl, k ∙ ap foundAnimation e)
         by false (error t o) d k =
             absurd (omega (arith, ap (λ (y : Animation). y .status) k, loop-refuses (λ t o. 1 ≤ t) (λ _. omega arith) (λ _. omega arith) (λ _. omega arith) (λ _. omega arith) start l t o d))
 
 -- ---- an entry, after its start
 
 -- a second entry with tag 5 is refused before its numbers are read
-once : (s b : Bool) (p : ℕ) {X : Type 0} (m n : Outcome Loop) (k : Loop → Outcome X)
+once : (s b : Bool) (p : ℕ) {X : Type 0} (m n : Outcome AnimationControl) (k : AnimationControl → Outcome X)
     → (guard (not (s && b)) 13 p >>= λ _. select b m n >>= k) ≡ (select b (guard (not s) 13 p >>= λ _. m) n >>= k)
 unfolding select
 once true true p m n k = refl
@@ -93,7 +93,7 @@ once false b p m n k = refl
 abbrev entered : Bool → ℕ → Decoded ℕ EntryHead → Outcome (Decoded ℕ Extension)
 entered seen p x =
     let payload = take (x .value .size) (x .rest) in
-    select (eqb (x .value .tag) 5) (animationControl seen p (x .next) payload) (ok noLoop) >>= λ _.
+    select (eqb (x .value .tag) 5) (animationControl seen p (x .next) payload) (ok noAnimation) >>= λ _.
     ok (decoded (record { tag = x .value .tag; payload = payload }) (x .next + x .value .size) (drop (x .value .size) (x .rest)))
 
 entry-steps : (seen : Bool) (p : ℕ) (l : List ℕ) → readEntry seen p l ≡ (entryStart p l >>= entered seen p)
@@ -163,7 +163,7 @@ module _ (region : List ℕ) (seen : Bool) (p : ℕ) where
     bytes = payloadOf region t
 
     entry-is : entry
-        ≡ (select (eqb (t .entry .tag) 5) (animationControl seen p start bytes) (ok noLoop) >>= λ _. ok (entryOf region t))
+        ≡ (select (eqb (t .entry .tag) 5) (animationControl seen p start bytes) (ok noAnimation) >>= λ _. ok (entryOf region t))
     entry-is = rw (entry-steps seen p (drop p region), s .is, drop-drop, s .next)
 
     pub plain-read : t .entry .tag ≢ 5 → entry ≡ ok (entryOf region t)
@@ -177,7 +177,7 @@ module _ (region : List ℕ) (seen : Bool) (p : ℕ) where
       pub numbers-refused : a .status ≢ 0 → entry ≡ error (a .status) (a .offset .0)
       numbers-refused n = entry-is ∙ rw (eq-eqb (t .entry .tag) 5 e, select-true, control-refused seen p start bytes a answers n)
 
-      pub numbers-read : All Byte region → a .status ≡ 0 → (entry ≡ ok (entryOf region t)) × (seen ≡ false) × (a ≡ loopAnswer (loopFrom (readLoop 0 bytes)))
+      pub numbers-read : All Byte region → a .status ≡ 0 → (entry ≡ ok (entryOf region t)) × (seen ≡ false) × (a ≡ foundAnimation (animationFrom (readAnimation 0 bytes)))
       numbers-read b z =
           let l = control-read seen p start bytes a answers (all-take Byte (t .entry .payload .length) (drop start region) (all-drop Byte start region b)) z in
           (entry-is ∙ rw (eq-eqb (t .entry .tag) 5 e, select-true, l .0), l .1, l .2)

@@ -11,13 +11,13 @@ use Rattle.bpg_numbers.specs.Ue7.{ue7Bytes}
 use Rattle.bpg_format.specs.Limits.{maxEntries}
 use Rattle.bpg_format.specs.declared.record.Entry.{Entry}
 use Rattle.bpg_format.specs.Zero.{range, zeroEntry}
-use Rattle.bpg_format.specs.Content.{Extension, Loop}
+use Rattle.bpg_format.specs.Content.{Extension, AnimationControl}
 use Rattle.bpg_format.specs.Syntax.{extensionBytes, blockBytes}
-use Rattle.bpg_format.specs.Rules.{isLoop, hasLoop}
-use Rattle.bpg_format.specs.Read.{readLoop, loopFrom, loopOf}
+use Rattle.bpg_format.specs.Rules.{isAnimation, hasAnimation}
+use Rattle.bpg_format.specs.Read.{readAnimation, animationFrom, animationOf}
 use Rattle.bpg_format.specs.Records.{entriesAt, padEntries}
 
-earlier : (a b c : Bool) → (b ≡ true → (a || c) ≡ false) → (p q r s : Loop) → ((b ≡ true → c ≡ false) → q ≡ select b r s)
+earlier : (a b c : Bool) → (b ≡ true → (a || c) ≡ false) → (p q r s : AnimationControl) → ((b ≡ true → c ≡ false) → q ≡ select b r s)
     → select a p q ≡ select b r (select a p s)
 unfolding select
 earlier true true c h p q r s ih = absurd (subst T (h refl) tt)
@@ -51,15 +51,15 @@ module _ (e : Extension) where
       let n2 = length-append (extensionBytes x) (blockBytes es) in
       omega (arith, bytes-snoc es)
 
-  pub has-snoc : (es : List Extension) → hasLoop (es ++ one) ≡ (hasLoop es || isLoop e)
-  has-snoc [] = or-false (isLoop e)
+  pub has-snoc : (es : List Extension) → hasAnimation (es ++ one) ≡ (hasAnimation es || isAnimation e)
+  has-snoc [] = or-false (isAnimation e)
   has-snoc (x ∷ es) = rw (has-snoc es, or-assoc)
 
   -- the last has tag 5 only where none before it has
-  pub loop-snoc : (es : List Extension) → (isLoop e ≡ true → hasLoop es ≡ false) → loopOf (es ++ one) ≡ select (isLoop e) (loopFrom (readLoop 0 (e .payload))) (loopOf es)
-  unfolding loopOf
+  pub loop-snoc : (es : List Extension) → (isAnimation e ≡ true → hasAnimation es ≡ false) → animationOf (es ++ one) ≡ select (isAnimation e) (animationFrom (readAnimation 0 (e .payload))) (animationOf es)
+  unfolding animationOf
   loop-snoc [] h = refl
-  loop-snoc (x ∷ es) h = earlier (isLoop x) (isLoop e) (hasLoop es) h (loopFrom (readLoop 0 (x .payload))) (loopOf (es ++ one)) (loopFrom (readLoop 0 (e .payload))) (loopOf es) (loop-snoc es)
+  loop-snoc (x ∷ es) h = earlier (isAnimation x) (isAnimation e) (hasAnimation es) h (animationFrom (readAnimation 0 (x .payload))) (animationOf (es ++ one)) (animationFrom (readAnimation 0 (e .payload))) (animationOf es) (loop-snoc es)
 
 -- the entry at the end takes the place of the first zero entry
 set-end : (es : List Entry) (x y : Entry) (l : List Entry) → set (es ++ (y ∷ l)) (length es) x ≡ es ++ (x ∷ l)

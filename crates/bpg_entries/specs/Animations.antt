@@ -2,15 +2,15 @@
 use Prim.Native.Nat.{ℕ}
 use Rattle.bpg_codec.specs.Outcome.{Outcome, ok, error}
 use Rattle.bpg_bytes.specs.Positions.{bytePos}
-use Rattle.bpg_format.specs.Content.{Loop}
+use Rattle.bpg_format.specs.Content.{AnimationControl}
 use Rattle.bpg_entries.specs.declared.animation.Animation.{Animation}
 
 abbrev pub refusedAnimation : (status offset : ℕ) → Animation
 refusedAnimation s o = record { status = s; offset = bytePos o; «loop_count» = 0; «frame_period_num» = 0; «frame_period_den» = 0 }
 
-abbrev pub loopAnswer : Loop → Animation
-loopAnswer p = record { status = 0; offset = bytePos 0; «loop_count» = p .count; «frame_period_num» = p .periodNum; «frame_period_den» = p .periodDen }
+abbrev pub foundAnimation : AnimationControl → Animation
+foundAnimation p = record { status = 0; offset = bytePos 0; «loop_count» = p .count; «frame_period_num» = p .periodNum; «frame_period_den» = p .periodDen }
 
-abbrev pub animationAnswer : Outcome Loop → Animation
-animationAnswer (ok p) = loopAnswer p
+abbrev pub animationAnswer : Outcome AnimationControl → Animation
+animationAnswer (ok p) = foundAnimation p
 animationAnswer (error s o) = refusedAnimation s o

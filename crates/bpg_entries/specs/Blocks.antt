@@ -9,11 +9,11 @@ use Rattle.bpg_bytes.specs.Positions.{bytePos}
 use Rattle.bpg_format.specs.Limits.{maxEntries, maxFile}
 use Rattle.bpg_format.specs.Zero.{zeroEntry}
 use Rattle.bpg_format.specs.Content.{Extension}
-use Rattle.bpg_format.specs.Rules.{hasLoop, noLoop}
-use Rattle.bpg_format.specs.Read.{loopOf, readEntries}
+use Rattle.bpg_format.specs.Rules.{hasAnimation, noAnimation}
+use Rattle.bpg_format.specs.Read.{animationOf, readEntries}
 use Rattle.bpg_format.specs.Records.{entriesAt, padEntries}
 use Rattle.bpg_entries.specs.declared.block.Block.{Block}
-use Rattle.bpg_entries.specs.Animations.{loopAnswer}
+use Rattle.bpg_entries.specs.Animations.{foundAnimation}
 
 abbrev pub refusedBlock : (status offset : ℕ) → Block
 refusedBlock s o =
@@ -23,7 +23,7 @@ refusedBlock s o =
       «entry_count» = 0;
       entries = replicate maxEntries zeroEntry;
       animated = false;
-      animation = loopAnswer noLoop;
+      animation = foundAnimation noAnimation;
     }
 
 -- entries of a block whose first stands at p
@@ -34,8 +34,8 @@ blockAnswer p (ok es) =
       offset = bytePos 0;
       «entry_count» = length es;
       entries = padEntries (entriesAt p es);
-      animated = hasLoop es;
-      animation = loopAnswer (loopOf es);
+      animated = hasAnimation es;
+      animation = foundAnimation (animationOf es);
     }
 blockAnswer p (error s o) = refusedBlock s o
 

@@ -9,8 +9,8 @@ use Rattle.bpg_bytes.specs.Positions.{bytePos}
 use Rattle.bpg_numbers.specs.Ue7.{ue7Decode}
 use Rattle.bpg_format.specs.Limits.{maxFile}
 use Rattle.bpg_format.specs.Zero.{range, zeroEntry}
-use Rattle.bpg_format.specs.Content.{Loop}
-use Rattle.bpg_format.specs.Read.{readLoop}
+use Rattle.bpg_format.specs.Content.{AnimationControl}
+use Rattle.bpg_format.specs.Read.{readAnimation}
 use Rattle.bpg_entries.specs.declared.entry.Step.{Step}
 
 -- an entry without its payload
@@ -28,8 +28,8 @@ entryStart p l =
     ok (decoded (record { tag = tag .value; size = size .value }) (size .next) (size .rest))
 
 -- and then for tag 5: 13 at the entry's start p, the numbers of its payload l, which stands at `start`; `seen`: an entry with tag 5 stands before it
-abbrev pub animationControl : (seen : Bool) (p start : ℕ) → List ℕ → Outcome Loop
-animationControl seen p start l = guard (not seen) 13 p >>= λ _. readLoop start l
+abbrev pub animationControl : (seen : Bool) (p start : ℕ) → List ℕ → Outcome AnimationControl
+animationControl seen p start l = guard (not seen) 13 p >>= λ _. readAnimation start l
 
 abbrev pub refusedStep : (status offset : ℕ) → Step
 refusedStep s o = record { status = s; offset = bytePos o; entry = zeroEntry; next = bytePos 0 }

@@ -4,9 +4,9 @@ use bpg_numbers::ue7;
 use bpg_numbers::ue7::Number;
 ghost use mathlib.Core.Path.{_≡_};
 ghost use lib.ListN.{drop};
-ghost use Rattle.bpg_format.specs.Rules.{noLoop};
-ghost use Rattle.bpg_format.specs.Read.{readLoop};
-ghost use Rattle.bpg_entries.specs.Animations.{refusedAnimation, loopAnswer, animationAnswer};
+ghost use Rattle.bpg_format.specs.Rules.{noAnimation};
+ghost use Rattle.bpg_format.specs.Read.{readAnimation};
+ghost use Rattle.bpg_entries.specs.Animations.{refusedAnimation, foundAnimation, animationAnswer};
 
 // Status 0 and the numbers; or a refusal and zeros.
 pub struct Animation {
@@ -31,14 +31,14 @@ pub fn refused(status: u8, offset: BytePos) -> Animation
 
 // There is no animation control: all its numbers are zero.
 pub fn none() -> Animation
-    ensures { λ r. ⌜ r ≡ loopAnswer noLoop ⌝ }
+    ensures { λ r. ⌜ r ≡ foundAnimation noAnimation ⌝ }
 {
     refused(0, BytePos(0))
 }
 
 // The numbers from `at` on, in a region that ends with the payload.
 pub fn read(region: &[u8], at: BytePos) -> Animation
-    ensures { λ r. ⌜ r ≡ animationAnswer (readLoop (at .0) (drop (at .0) (now (region .entry)))) ⌝ }
+    ensures { λ r. ⌜ r ≡ animationAnswer (readAnimation (at .0) (drop (at .0) (now (region .entry)))) ⌝ }
 {
     match ue7::read(region, at, 16) {
         Number::Refused(status, offset) => refused(status, offset),

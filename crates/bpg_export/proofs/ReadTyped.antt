@@ -11,16 +11,16 @@ use Rattle.bpg_format.specs.Limits.{maxEntries, maxFile}
 use Rattle.bpg_format.specs.declared.record.Entry.{Entry}
 use Rattle.bpg_format.specs.declared.record.Header.{Header}
 use Rattle.bpg_format.specs.Zero.{zeroEntry, zeroHeader, zeroRecord}
-use Rattle.bpg_format.specs.Content.{Extension, Loop, Content, hasAlpha, bitDepth}
+use Rattle.bpg_format.specs.Content.{Extension, AnimationControl, Content, hasAlpha, bitDepth}
 use Rattle.bpg_format.specs.Syntax.{fileOf}
-use Rattle.bpg_format.specs.Rules.{isLoop, hasLoop, ExtensionRules, HeaderRules, Rules}
+use Rattle.bpg_format.specs.Rules.{isAnimation, hasAnimation, ExtensionRules, HeaderRules, Rules}
 use Rattle.bpg_format.specs.Read.{readContent}
 use Rattle.bpg_format.specs.Records.{blockStart, extensionOf, usedEntries, contentOf, answerOf, readFile, recordOf as contentRecord}
 use Rattle.bpg_format.specs.Write.{Writable}
 use Rattle.bpg_codec.proofs.Tokens.{all-append}
 use Rattle.bpg_format.proofs.RuleLaws.{bool-apart, by-tag}
 use Rattle.bpg_format.proofs.RecordLaws.{entries-length, content-record}
-use Rattle.bpg_format.proofs.Reading.{read-is}
+use Rattle.bpg_format.proofs.ReadingLaws.{read-is}
 use Rattle.bpg_format.proofs.Writing.{record-writable}
 use Rattle.bpg_list.specs.Numbers.{entryNumbers}
 use Rattle.bpg_list.specs.Typing.{OfBits, TypedHeader, TypedRecord}
@@ -42,16 +42,16 @@ zero-typed = omega arith
 
 -- ---- the loop numbers
 
-abbrev LoopTyped : Loop → Type 0
+abbrev LoopTyped : AnimationControl → Type 0
 LoopTyped p = OfBits 16 (p .count ∷ p .periodNum ∷ p .periodDen ∷ [])
 
-loop-typed : (p : Loop) (es : List Extension) → All (ExtensionRules p) es → hasLoop es ≡ true → LoopTyped p
+loop-typed : (p : AnimationControl) (es : List Extension) → All (ExtensionRules p) es → hasAnimation es ≡ true → LoopTyped p
 loop-typed p [] a h = bool-apart h refl
-loop-typed p (e ∷ es) a h = by-tag (isLoop e) (λ w. let d = a .0 .loop w in omega arith) (λ w. loop-typed p es (a .1) (rw w at h))
+loop-typed p (e ∷ es) a h = by-tag (isAnimation e) (λ w. let d = a .0 .control w in omega arith) (λ w. loop-typed p es (a .1) (rw w at h))
 
 -- ---- the entries
 
-module _ (file : List ℕ) (short : length file ≤ maxFile) (p : Loop) where
+module _ (file : List ℕ) (short : length file ≤ maxFile) (p : AnimationControl) where
   used-typed : (es : List Entry) → All (ExtensionRules p) (map (extensionOf file) es) → All (λ (e : Entry). e .payload .start + e .payload .length ≤ length file) es
       → All (λ (e : Entry). OfBits 32 (entryNumbers e)) es
   used-typed [] a b = tt
@@ -77,15 +77,15 @@ module _ (c : Content) (r : Rules c) where
       let es = contentRecord c .entries in
       subst (All (λ (e : Entry). OfBits 32 (entryNumbers e))) (take-append-drop n es)
       (all-append (λ (e : Entry). OfBits 32 (entryNumbers e)) (take n es) (drop n es)
-      (used-typed (fileOf c) (r .size) (c .loop) (take n es) (subst (All (ExtensionRules (c .loop))) (sym extensions-are) (r .entries)) (writable .payloads))
+      (used-typed (fileOf c) (r .size) (c .control) (take n es) (subst (All (ExtensionRules (c .control))) (sym extensions-are) (r .entries)) (writable .payloads))
       (unused-typed (drop n es) (writable .unused)))
 
   sixteen : length (contentRecord c .entries) ≡ maxEntries
   unfolding contentRecord
   sixteen = simp (length-append, length-replicate) (omega (arith, entries-length (blockStart c) (c .extensions), r .entry-limit))
 
-  loop-small : LoopTyped (c .loop)
-  loop-small = by-tag (hasLoop (c .extensions)) (loop-typed (c .loop) (c .extensions) (r .entries)) (λ e. rw (r .no-loop e) (omega arith))
+  loop-small : LoopTyped (c .control)
+  loop-small = by-tag (hasAnimation (c .extensions)) (loop-typed (c .control) (c .extensions) (r .entries)) (λ e. rw (r .no-animation e) (omega arith))
 
   alpha-typed : TypedHeader (c .alphaHeader)
   alpha-typed =
@@ -110,7 +110,7 @@ refused-typed =
       size = omega arith;
       entries = zeros-typed maxEntries;
       sixteen = refl;
-      loop = omega arith;
+      control = omega arith;
       headers = (zero-typed, (zero-typed, tt));
       two = refl;
       data-range = omega arith;

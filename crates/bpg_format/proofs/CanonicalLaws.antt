@@ -18,10 +18,10 @@ use Rattle.bpg_numbers.proofs.Ue7Laws.{size-grows, bytes-ue7}
 use Rattle.bpg_format.specs.declared.record.Header.{Header}
 use Rattle.bpg_format.specs.Limits.{maxEntries, maxFile}
 use Rattle.bpg_format.specs.Zero.{zeroHeader}
-use Rattle.bpg_format.specs.Content.{isEmpty, Extension, Loop, Content, hasAlpha}
-use Rattle.bpg_format.specs.Syntax.{blockBytes, extensionPart, spsExtensionBits, headerBits, headerBytes, bodyBytes, dataLength, fileOf}
-use Rattle.bpg_format.specs.Rules.{NoPcm, PcmRules, FieldRules, HeaderRules, LoopPayload, isLoop, ExtensionRules, hasLoop, OneLoop, noLoop, Rules}
-use Rattle.bpg_format.specs.Pictures.{Choices, canonicalChoices, pictureHeader, pictureEntry, pictureOf, headerWith, needsRange, loopBytes, entryWith, withChoices, canonicalContent}
+use Rattle.bpg_format.specs.Content.{isEmpty, Extension, AnimationControl, Content, hasAlpha}
+use Rattle.bpg_format.specs.Syntax.{blockBytes, extensionPart, spsExtensionBits, headerBits, headerBytes, headersAndData, dataLength, fileOf}
+use Rattle.bpg_format.specs.Rules.{NoPcm, PcmRules, FieldRules, HeaderRules, AnimationPayload, isAnimation, ExtensionRules, hasAnimation, OneAnimation, noAnimation, Rules}
+use Rattle.bpg_format.specs.Pictures.{Choices, canonicalChoices, pictureHeader, pictureEntry, pictureOf, headerWith, needsRange, animationBytes, entryWith, withChoices, canonicalContent}
 use Rattle.bpg_format.proofs.HeaderRuleLaws.{nine-zeros}
 use Rattle.bpg_format.proofs.RuleLaws.{bool-apart, by-tag, file-size, body-size}
 
@@ -81,40 +81,40 @@ header-shorter h f =
 
 -- ---- entries
 
-abbrev canonicalEntry : Loop → Extension → Extension
+abbrev canonicalEntry : AnimationControl → Extension → Extension
 canonicalEntry p e = entryWith p [] (pictureEntry e)
 
-module _ (p : Loop) where
-  entry-loop : (e : Extension) → isLoop e ≡ true → canonicalEntry p e .payload ≡ loopBytes p []
+module _ (p : AnimationControl) where
+  entry-loop : (e : Extension) → isAnimation e ≡ true → canonicalEntry p e .payload ≡ animationBytes p []
   entry-loop e l = select-true _ _ l
 
-  entry-other : (e : Extension) → isLoop e ≡ false → canonicalEntry p e .payload ≡ e .payload
+  entry-other : (e : Extension) → isAnimation e ≡ false → canonicalEntry p e .payload ≡ e .payload
   entry-other e l = select-false _ _ l ∙ select-false _ _ l
 
-  loop-payload : (l dummy : List ℕ) → LoopPayload l p dummy → LoopPayload (loopBytes p []) p []
+  loop-payload : (l dummy : List ℕ) → AnimationPayload l p dummy → AnimationPayload (animationBytes p []) p []
   loop-payload l dummy r = search
 
-  loop-bytes : All Byte (loopBytes p [])
+  loop-bytes : All Byte (animationBytes p [])
   loop-bytes = search (all-append, bytes-ue7)
 
   entry-rules : (e : Extension) → ExtensionRules p e → ExtensionRules p (canonicalEntry p e)
   entry-rules e r =
-      by-tag (isLoop e)
-      (λ l. let d = r .loop l in record {
+      by-tag (isAnimation e)
+      (λ l. let d = r .control l in record {
         tag = r .tag;
         bytes = rw (entry-loop e l) loop-bytes;
-        loop = λ _. ([], rw (entry-loop e l) (loop-payload (e .payload) (d .0) (d .1)));
+        control = λ _. ([], rw (entry-loop e l) (loop-payload (e .payload) (d .0) (d .1)));
       })
       (λ l. record {
         tag = r .tag;
         bytes = rw (entry-other e l) (r .bytes);
-        loop = λ k. bool-apart k l;
+        control = λ k. bool-apart k l;
       })
 
   entry-shorter : (e : Extension) → ExtensionRules p e → length (canonicalEntry p e .payload) ≤ length (e .payload)
   entry-shorter e r =
-      by-tag (isLoop e)
-      (λ l. let d = r .loop l in rw (entry-loop e l, d .1 .is) (simp length-append (omega arith)))
+      by-tag (isAnimation e)
+      (λ l. let d = r .control l in rw (entry-loop e l, d .1 .is) (simp length-append (omega arith)))
       (λ l. rw (entry-other e l) (omega arith))
 
   -- ---- all entries
@@ -126,11 +126,11 @@ module _ (p : Loop) where
   entries-rules [] r = tt
   entries-rules (e ∷ es) r = (entry-rules e (r .0), entries-rules es (r .1))
 
-  entries-loop : (es : List Extension) → hasLoop (canonicalEntries es) ≡ hasLoop es
+  entries-loop : (es : List Extension) → hasAnimation (canonicalEntries es) ≡ hasAnimation es
   entries-loop [] = refl
-  entries-loop (e ∷ es) = ap (λ (b : Bool). isLoop e || b) (entries-loop es)
+  entries-loop (e ∷ es) = ap (λ (b : Bool). isAnimation e || b) (entries-loop es)
 
-  entries-one : (es : List Extension) → OneLoop es → OneLoop (canonicalEntries es)
+  entries-one : (es : List Extension) → OneAnimation es → OneAnimation (canonicalEntries es)
   entries-one [] o = tt
   entries-one (e ∷ es) o = ((λ l. entries-loop es ∙ o .0 l), entries-one es (o .1))
 
@@ -146,13 +146,13 @@ module _ (p : Loop) where
 -- the choices do not change the picture
 pub choices-keep : (c : Content) (ch : Choices) → pictureOf (withChoices (pictureOf c) ch) ≡ pictureOf c
 unfolding pictureOf withChoices
-choices-keep c ch = rw (entries-keep (c .loop) (ch .dummy) (c .extensions))
+choices-keep c ch = rw (entries-keep (c .control) (ch .dummy) (c .extensions))
   where
-    payload-keep : (p : Loop) (d : List ℕ) (e : Extension) → select (isLoop e) [] (select (isLoop e) (loopBytes p d) (select (isLoop e) [] (e .payload))) ≡ select (isLoop e) [] (e .payload)
+    payload-keep : (p : AnimationControl) (d : List ℕ) (e : Extension) → select (isAnimation e) [] (select (isAnimation e) (animationBytes p d) (select (isAnimation e) [] (e .payload))) ≡ select (isAnimation e) [] (e .payload)
     payload-keep p d e =
-        by-tag (isLoop e) (λ l. select-true _ _ l ∙ sym (select-true _ _ l)) (λ l. select-false _ _ l ∙ select-false _ _ l)
+        by-tag (isAnimation e) (λ l. select-true _ _ l ∙ sym (select-true _ _ l)) (λ l. select-false _ _ l ∙ select-false _ _ l)
 
-    entries-keep : (p : Loop) (d : List ℕ) (es : List Extension) → map pictureEntry (map (entryWith p d) (map pictureEntry es)) ≡ map pictureEntry es
+    entries-keep : (p : AnimationControl) (d : List ℕ) (es : List Extension) → map pictureEntry (map (entryWith p d) (map pictureEntry es)) ≡ map pictureEntry es
     entries-keep p d [] = refl
     entries-keep p d (e ∷ es) = ap₂ _∷_ (ap {B = Extension} (λ (l : List ℕ). record { tag = e .tag; payload = l }) (payload-keep p d e)) (entries-keep p d es)
 
@@ -166,7 +166,7 @@ unfolding select
 select-shorter true l m h = h refl
 select-shorter false l m h = omega arith
 
-body-shorter : (c : Content) → Rules c → length (bodyBytes (canonicalContent c)) ≤ length (bodyBytes c)
+body-shorter : (c : Content) → Rules c → length (headersAndData (canonicalContent c)) ≤ length (headersAndData c)
 unfolding pictureOf withChoices canonicalContent
 body-shorter c r =
     omega (
@@ -178,7 +178,7 @@ body-shorter c r =
     )
 
 -- the block goes where there is no entry, and is not longer where there is one
-part-shorter : (b : Bool) (p : Loop) (es : List Extension) → (b ≡ false → es ≡ []) → All (ExtensionRules p) es
+part-shorter : (b : Bool) (p : AnimationControl) (es : List Extension) → (b ≡ false → es ≡ []) → All (ExtensionRules p) es
     → length (extensionPart (not (isEmpty (map pictureEntry es))) (canonicalEntries p es)) ≤ length (extensionPart b es)
 unfolding extensionPart select
 part-shorter b p [] n r = omega arith
@@ -198,20 +198,20 @@ shorter c r =
       file-size (canonicalContent c),
       size-grows 0 (dataLength c) (omega arith),
       ap (λ (n : ℕ). length (ue7Bytes n)) (open-length c),
-      part-shorter (c .flags .extensionPresent) (c .loop) (c .extensions) (r .absent-block) (r .entries),
+      part-shorter (c .flags .extensionPresent) (c .control) (c .extensions) (r .absent-block) (r .entries),
       body-shorter c r,
     )
 
-no-entries : (p : Loop) (es : List Extension) → not (isEmpty (map pictureEntry es)) ≡ false → canonicalEntries p es ≡ []
+no-entries : (p : AnimationControl) (es : List Extension) → not (isEmpty (map pictureEntry es)) ≡ false → canonicalEntries p es ≡ []
 no-entries p [] e = refl
 no-entries p (x ∷ es) e = bool-apart refl e
 
 pub canonical-rules : (c : Content) → Rules c → Rules (canonicalContent c)
 unfolding pictureOf withChoices canonicalContent
 canonical-rules c r =
-    let limit : length (canonicalEntries (c .loop) (c .extensions)) ≤ maxEntries = simp length-map (r .entry-limit) in
-    let loops = entries-loop (c .loop) (c .extensions) in
-    let no-loop : hasLoop (canonicalEntries (c .loop) (c .extensions)) ≡ false → c .loop ≡ noLoop = λ h. r .no-loop (sym loops ∙ h) in
+    let limit : length (canonicalEntries (c .control) (c .extensions)) ≤ maxEntries = simp length-map (r .entry-limit) in
+    let loops = entries-loop (c .control) (c .extensions) in
+    let no-animation : hasAnimation (canonicalEntries (c .control) (c .extensions)) ≡ false → c .control ≡ noAnimation = λ h. r .no-animation (sym loops ∙ h) in
     let no-alpha : hasAlpha (c .flags) ≡ false → canonical (c .alphaHeader) ≡ zeroHeader = λ a. ap canonical (r .no-alpha a) in
     let size : length (fileOf (canonicalContent c)) ≤ maxFile = omega (arith, shorter c r, r .size) in
     search (no-entries, entries-rules, entries-one, loops, r .animated, header-rules, r .alpha-header)

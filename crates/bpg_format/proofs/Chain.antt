@@ -22,12 +22,12 @@ use Rattle.bpg_bits.specs.BitNumbers.{unsignedDecode, expGolombDecode}
 use Rattle.bpg_format.specs.Limits.{maxEntries, maxFile}
 use Rattle.bpg_format.specs.declared.record.Header.{Header}
 use Rattle.bpg_format.specs.Zero.{zeroHeader}
-use Rattle.bpg_format.specs.Content.{Flags, Extension, Loop, hasAlpha, bitDepth}
-use Rattle.bpg_format.specs.Rules.{hasLoop, noLoop}
-use Rattle.bpg_format.specs.Tests.{countsBody}
-use Rattle.bpg_format.specs.Read.{ifPresent, readFlags, Head, readHead, readLoop, readEntry, readEntries, readBlock, oneFlag, nineFlags, readFields}
+use Rattle.bpg_format.specs.Content.{Flags, Extension, AnimationControl, hasAlpha, bitDepth}
+use Rattle.bpg_format.specs.Rules.{hasAnimation, noAnimation}
+use Rattle.bpg_format.specs.Tests.{countsToEnd}
+use Rattle.bpg_format.specs.Read.{ifPresent, readFlags, Head, readHead, readAnimation, readEntry, readEntries, readBlock, oneFlag, nineFlags, readFields}
 use Rattle.bpg_format.specs.Read.{readHeader, readAlphaHeader, readBody, readContent}
-use Rattle.bpg_format.specs.FileCodec.{flags, dimension, period, loopNumbers, payload, extension, seenAfter, extensions, block, oneBit, optional}
+use Rattle.bpg_format.specs.FileCodec.{flags, dimension, period, animationCodec, payload, extension, seenAfter, extensions, block, oneBit, optional}
 use Rattle.bpg_format.specs.FileCodec.{SizeFields, sizeFields, PcmFields, pcmFields, spsFields, noPcm, noSps, FieldTuple, fieldSequence, headerFrom}
 use Rattle.bpg_format.specs.FileCodec.{headerFields, header, alphaHeader, body, judgedBody, parts, withLoop, file}
 
@@ -37,15 +37,15 @@ use Rattle.bpg_format.specs.FileCodec.{headerFields, header, alphaHeader
 abbrev pub Numbers : Type 0
 Numbers = ℕ × (ℕ × (ℕ × List ℕ))
 
-abbrev pub loopOfNumbers : Numbers → Loop
-loopOfNumbers x = record { count = x .0; periodNum = x .1 .0; periodDen = x .1 .1 .0 }
+abbrev pub animationOfNumbers : Numbers → AnimationControl
+animationOfNumbers x = record { count = x .0; periodNum = x .1 .0; periodDen = x .1 .1 .0 }
 
-pub loop-chain : (i p : ℕ) (l : List ℕ) → readLoop p l ≡ (loopNumbers .decode i p l >>= λ x. ok (loopOfNumbers x))
-unfolding loopNumbers thenRest period guarded rest readLoop
+pub loop-chain : (i p : ℕ) (l : List ℕ) → readAnimation p l ≡ (animationCodec .decode i p l >>= λ x. ok (animationOfNumbers x))
+unfolding animationCodec thenRest period guarded rest readAnimation
 loop-chain i p l = simp bind-assoc
 
 payload-then : {A : Type 0} (b : Bool) (i p : ℕ) (l : List ℕ) (k : List ℕ → Outcome A)
-    → (payload b .decode i p l >>= k) ≡ (select b (readLoop p l) (ok noLoop) >>= λ _. k l)
+    → (payload b .decode i p l >>= k) ≡ (select b (readAnimation p l) (ok noAnimation) >>= λ _. k l)
 unfolding payload select verbatim rest
 payload-then true i p l k = simp (loop-chain i p l, bind-assoc)
 payload-then false i p l k = refl
@@ -176,8 +176,8 @@ headRest l =
 -- 14, then 10, the headers and the data
 judged-then : {A : Type 0} (f : Flags) (n : ℕ) (es : List Extension) (i p : ℕ) (l : List ℕ) (k : Header × (Header × List ℕ) → Outcome A)
     → (judgedBody f n es .decode i p l >>= k)
-    ≡ (guard (not (f .animation) || hasLoop es) 14 5 >>= λ _.
-    guard (countsBody n (length l)) 10 i >>= λ _.
+    ≡ (guard (not (f .animation) || hasAnimation es) 14 5 >>= λ _.
+    guard (countsToEnd n (length l)) 10 i >>= λ _.
     readAlphaHeader f p l >>= λ alpha.
     readHeader (bitDepth f) (alpha .next) (alpha .rest) >>= λ color.
     k (alpha .value, (color .value, color .rest)))

@@ -24,11 +24,11 @@ use Rattle.bpg_bits.proofs.BitNumberLaws.{unsigned-lawful, expGolomb-lawful}
 use Rattle.bpg_format.specs.Limits.{maxEntries, maxFile}
 use Rattle.bpg_format.specs.declared.record.Header.{Header}
 use Rattle.bpg_format.specs.Zero.{zeroHeader}
-use Rattle.bpg_format.specs.Content.{Flags, Extension, Loop, Content, hasAlpha, bitDepth}
-use Rattle.bpg_format.specs.Rules.{hasLoop}
-use Rattle.bpg_format.specs.Tests.{countsBody, noForbiddenBit, hevcAllowed}
-use Rattle.bpg_format.specs.Read.{loopOf}
-use Rattle.bpg_format.specs.FileCodec.{flags, dimension, period, loopNumbers, payload, extension, seenAfter, extensions, block, oneBit, optional}
+use Rattle.bpg_format.specs.Content.{Flags, Extension, AnimationControl, Content, hasAlpha, bitDepth}
+use Rattle.bpg_format.specs.Rules.{hasAnimation}
+use Rattle.bpg_format.specs.Tests.{countsToEnd, noForbiddenBit, hevcAllowed}
+use Rattle.bpg_format.specs.Read.{animationOf}
+use Rattle.bpg_format.specs.FileCodec.{flags, dimension, period, animationCodec, payload, extension, seenAfter, extensions, block, oneBit, optional}
 use Rattle.bpg_format.specs.FileCodec.{sizeFields, pcmFields, spsFields, noPcm, noSps, fieldSequence, headerFields, header, alphaHeader, body, judgedBody}
 use Rattle.bpg_format.specs.FileCodec.{Parts, parts, withLoop, contentFrom, partsOf, file}
 use Rattle.bpg_format.proofs.FlagLaws.{flags-lawful}
@@ -43,8 +43,8 @@ period-lawful : Lawful Byte period
 unfolding period
 period-lawful = guarded-lawful notZero 12 atOwn (ue7-lawful 16)
 
-pub loopNumbers-lawful : ExactLawful Byte loopNumbers
-unfolding loopNumbers
+pub loopNumbers-lawful : ExactLawful Byte animationCodec
+unfolding animationCodec
 loopNumbers-lawful = thenRest-lawful (ue7-lawful 16) λ _. thenRest-lawful period-lawful λ _. thenRest-lawful period-lawful λ _. rest-lawful Byte
 
 payload-lawful : (b : Bool) → ExactLawful Byte (payload b)
@@ -123,8 +123,8 @@ body-lawful f = thenRest-lawful (alphaHeader-lawful f) λ _. thenRest-lawful (he
 judged-lawful : (f : Flags) (n : ℕ) (es : List Extension) → ExactLawful Byte (judgedBody f n es)
 unfolding judgedBody
 judged-lawful f n es =
-    guardedRegion-lawful (λ _. not (f .animation) || hasLoop es) 14 (λ _ _. 5)
-    (guardedRegion-lawful (λ l. countsBody n (length l)) 10 atItem (body-lawful f))
+    guardedRegion-lawful (λ _. not (f .animation) || hasAnimation es) 14 (λ _ _. 5)
+    (guardedRegion-lawful (λ l. countsToEnd n (length l)) 10 atItem (body-lawful f))
 
 -- ---- the file
 
@@ -150,7 +150,7 @@ unfolding select
 length-choice true size h = ap not (ne-eqb size 0 (λ e. omega arith))
 length-choice false size h = refl
 
-choice-length : (n size : ℕ) → T (countsBody n size) → select (notZero n) size 0 ≡ n
+choice-length : (n size : ℕ) → T (countsToEnd n size) → select (notZero n) size 0 ≡ n
 unfolding select
 choice-length zero size t = refl
 choice-length (suc n) size t =
@@ -160,12 +160,12 @@ choice-length (suc n) size t =
 content-parts : (c : Content) → withLoop .Valid (partsOf c) → contentFrom (partsOf c) ≡ c
 content-parts c v = rw (length-choice (c .explicitLength) _ (body-some (c .flags) (c .alphaHeader, (c .colorHeader, c .hevcData))))
 
-parts-content : (x : Parts × Loop) → withLoop .Valid x → partsOf (contentFrom x) ≡ x
+parts-content : (x : Parts × AnimationControl) → withLoop .Valid x → partsOf (contentFrom x) ≡ x
 unfolding withLoop derived parts judgedBody guardedRegion thenRest itemThenRest
 parts-content x v =
-    ap {B = Parts × Loop} (λ (n : ℕ). ((x .0 .0, (x .0 .1 .0, (x .0 .1 .1 .0, (n, x .0 .1 .1 .1 .1)))), x .1))
+    ap {B = Parts × AnimationControl} (λ (n : ℕ). ((x .0 .0, (x .0 .1 .0, (x .0 .1 .1 .0, (n, x .0 .1 .1 .1 .1)))), x .1))
     (choice-length (x .0 .1 .1 .1 .0) _ (v .0 .1 .1 .1 .1 .1 .1 .1 .0))
 
 pub file-lawful : ExactLawful Byte file
 unfolding file withLoop
-file-lawful = mappedExact-lawful (derived-lawful (λ (x : Parts). loopOf (x .1 .1 .1 .1 .0)) parts-lawful) content-parts parts-content
+file-lawful = mappedExact-lawful (derived-lawful (λ (x : Parts). animationOf (x .1 .1 .1 .1 .0)) parts-lawful) content-parts parts-content

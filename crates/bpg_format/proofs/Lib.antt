@@ -7,7 +7,7 @@ pub mod SyntaxLaws
 pub mod HeaderRuleLaws
 pub mod RuleLaws
 pub mod ReadingRefusals
-pub mod Reading
+pub mod ReadingLaws
 pub mod RecordLaws
 pub mod RangeLaws
 pub mod CanonicalLaws

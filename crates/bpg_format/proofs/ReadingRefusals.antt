@@ -24,13 +24,13 @@ use Rattle.bpg_format.specs.Limits.{maxEntries, maxFile}
 use Rattle.bpg_format.specs.Zero.{zeroHeader}
 use Rattle.bpg_format.specs.Content.{Flags, Extension, hasAlpha, bitDepth}
 use Rattle.bpg_format.specs.Syntax.{magic}
-use Rattle.bpg_format.specs.Rules.{hasLoop}
-use Rattle.bpg_format.specs.Tests.{colorSpaceAllowed, countsBody, noForbiddenBit, hevcAllowed}
-use Rattle.bpg_format.specs.Read.{flagsOf, readFlags, readLoop, loopOf, readContent, ReadingStatus}
-use Rattle.bpg_format.specs.FileCodec.{flags, dimension, period, loopNumbers, payload, extension, seenAfter, extensions, block, oneBit, optional}
+use Rattle.bpg_format.specs.Rules.{hasAnimation}
+use Rattle.bpg_format.specs.Tests.{colorSpaceAllowed, countsToEnd, noForbiddenBit, hevcAllowed}
+use Rattle.bpg_format.specs.Read.{flagsOf, readFlags, readAnimation, animationOf, readContent, ReadingStatus}
+use Rattle.bpg_format.specs.FileCodec.{flags, dimension, period, animationCodec, payload, extension, seenAfter, extensions, block, oneBit, optional}
 use Rattle.bpg_format.specs.FileCodec.{sizeFields, pcmFields, spsFields, noPcm, noSps, fieldSequence, headerFrom, fieldsOf, headerFields, header}
 use Rattle.bpg_format.specs.FileCodec.{alphaHeader, body, judgedBody, Parts, parts, withLoop, contentFrom, partsOf, file}
-use Rattle.bpg_format.proofs.Chain.{loopOfNumbers, loop-chain, content-chain}
+use Rattle.bpg_format.proofs.Chain.{animationOfNumbers, loop-chain, content-chain}
 
 abbrev pub Numbered : (status offset : ℕ) → Type 0
 Numbered s o = ReadingStatus s
@@ -48,16 +48,16 @@ number n = ue7-refuses Numbered (λ _. tt) (λ _. tt) (λ _. tt) n
 
 -- a tag 5 payload's own refusals are 2, 7, 8 and 12
 module _ (P : ℕ → ℕ → Type 0) (two : (o : ℕ) → P 2 o) (seven : (o : ℕ) → P 7 o) (eight : (o : ℕ) → P 8 o) (twelve : (o : ℕ) → P 12 o) where
-  numbers-refuse : ExactRefuses P loopNumbers
-  unfolding loopNumbers period
+  numbers-refuse : ExactRefuses P animationCodec
+  unfolding animationCodec period
   numbers-refuse =
       let n = ue7-refuses P two seven eight 16 in
       let d = guarded-refuses P notZero 12 atOwn twelve n in
       thenRest-refuses P n λ _. thenRest-refuses P d λ _. thenRest-refuses P d λ _. rest-refuses P Byte
 
-  pub loop-refuses : (p : ℕ) (l : List ℕ) → Refuses P (readLoop p l)
+  pub loop-refuses : (p : ℕ) (l : List ℕ) → Refuses P (readAnimation p l)
   loop-refuses p l s o e =
-      refuses-bind P (loopNumbers .decode p p l) (λ x. ok (loopOfNumbers x)) (numbers-refuse .refuses p p l) (λ x. refuses-ok P (loopOfNumbers x)) s o
+      refuses-bind P (animationCodec .decode p p l) (λ x. ok (animationOfNumbers x)) (numbers-refuse .refuses p p l) (λ x. refuses-ok P (animationOfNumbers x)) s o
       (sym (loop-chain p p l) ∙ e)
 
 payload-refuses : (b : Bool) → E (payload b)
@@ -121,8 +121,8 @@ body-refuses f =
 judged-refuses : (f : Flags) (n : ℕ) (es : List Extension) → E (judgedBody f n es)
 unfolding judgedBody
 judged-refuses f n es =
-    guardedRegion-refuses Numbered (λ _. not (f .animation) || hasLoop es) 14 (λ _ _. 5) (λ _. tt)
-    (guardedRegion-refuses Numbered (λ l. countsBody n (length l)) 10 atItem (λ _. tt) (body-refuses f))
+    guardedRegion-refuses Numbered (λ _. not (f .animation) || hasAnimation es) 14 (λ _ _. 5) (λ _. tt)
+    (guardedRegion-refuses Numbered (λ l. countsToEnd n (length l)) 10 atItem (λ _. tt) (body-refuses f))
 
 -- ---- the file
 
@@ -148,7 +148,7 @@ file-refuses : E file
 unfolding file withLoop parts
 file-refuses =
     mappedExact-refuses Numbered contentFrom partsOf
-    (derived-refuses Numbered (λ (x : Parts). loopOf (x .1 .1 .1 .1 .0))
+    (derived-refuses Numbered (λ (x : Parts). animationOf (x .1 .1 .1 .1 .0))
     (guardedRegion-refuses Numbered (λ l. leb (length l) maxFile) 1 (λ _ _. 0) (λ _. tt)
     (thenRest-refuses Numbered flags-refuse λ f.
     thenRest-refuses Numbered dimension-refuses λ _.

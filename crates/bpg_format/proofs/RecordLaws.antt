@@ -10,9 +10,9 @@ use Rattle.bpg_codec.specs.Select.{select}
 use Rattle.bpg_codec.proofs.Select.{select-true, select-false}
 use Rattle.bpg_numbers.specs.Ue7.{ue7Bytes}
 use Rattle.bpg_format.specs.Content.{Extension, Content, hasAlpha}
-use Rattle.bpg_format.specs.Syntax.{magic, byte4, byte5, extensionBytes, blockBytes, extensionPart, headerBytes, bodyBytes, dataLength, fileOf}
+use Rattle.bpg_format.specs.Syntax.{magic, byte4, byte5, extensionBytes, blockBytes, extensionPart, headerBytes, headersAndData, dataLength, fileOf}
 use Rattle.bpg_format.specs.Rules.{Rules}
-use Rattle.bpg_format.specs.Records.{entriesAt, padEntries, headEnd, blockStart, dataStart, recordOf, extensionOf, contentOf}
+use Rattle.bpg_format.specs.Records.{entriesAt, padEntries, extensionLengthStart, blockStart, dataStart, recordOf, extensionOf, contentOf}
 
 -- ---- the file in three parts: what stands before the entries, the entries, and what stands after
 
@@ -22,21 +22,21 @@ headBytes c = magic ++ (byte4 (c .flags) ∷ byte5 (c .flags) ∷ (ue7Bytes (c .
 unfoldable pub beforeEntries : Content → List ℕ
 beforeEntries c = headBytes c ++ select (c .flags .extensionPresent) (ue7Bytes (length (blockBytes (c .extensions)))) []
 
-head-file : (c : Content) → fileOf c ≡ headBytes c ++ (extensionPart (c .flags .extensionPresent) (c .extensions) ++ bodyBytes c)
+head-file : (c : Content) → fileOf c ≡ headBytes c ++ (extensionPart (c .flags .extensionPresent) (c .extensions) ++ headersAndData c)
 unfolding fileOf headBytes
 head-file c = simp append-assoc
 
-head-length : (c : Content) → length (headBytes c) ≡ headEnd c
-unfolding headBytes headEnd
+head-length : (c : Content) → length (headBytes c) ≡ extensionLengthStart c
+unfolding headBytes extensionLengthStart
 head-length c = simp length-append (omega arith)
 
-pub file-entries : (c : Content) → (c .flags .extensionPresent ≡ false → c .extensions ≡ []) → fileOf c ≡ beforeEntries c ++ (blockBytes (c .extensions) ++ bodyBytes c)
+pub file-entries : (c : Content) → (c .flags .extensionPresent ≡ false → c .extensions ≡ []) → fileOf c ≡ beforeEntries c ++ (blockBytes (c .extensions) ++ headersAndData c)
 unfolding beforeEntries extensionPart
 file-entries c n = head-file c ∙ by (c .flags .extensionPresent) n
   where
     by : (b : Bool) → (b ≡ false → c .extensions ≡ [])
-        → headBytes c ++ (select b (ue7Bytes (length (blockBytes (c .extensions))) ++ blockBytes (c .extensions)) [] ++ bodyBytes c)
-        ≡ (headBytes c ++ select b (ue7Bytes (length (blockBytes (c .extensions)))) []) ++ (blockBytes (c .extensions) ++ bodyBytes c)
+        → headBytes c ++ (select b (ue7Bytes (length (blockBytes (c .extensions))) ++ blockBytes (c .extensions)) [] ++ headersAndData c)
+        ≡ (headBytes c ++ select b (ue7Bytes (length (blockBytes (c .extensions)))) []) ++ (blockBytes (c .extensions) ++ headersAndData c)
     by true n = rw (select-true _ _ refl, select-true _ _ refl) (simp append-assoc)
     by false n = rw (n refl, select-false _ _ refl, select-false _ _ refl) (simp append-assoc)
 
@@ -88,7 +88,7 @@ unfoldable pub beforeData : Content → List ℕ
 beforeData c = beforeEntries c ++ (blockBytes (c .extensions) ++ (select (hasAlpha (c .flags)) (headerBytes (c .alphaHeader)) [] ++ headerBytes (c .colorHeader)))
 
 pub data-file : (c : Content) → (c .flags .extensionPresent ≡ false → c .extensions ≡ []) → fileOf c ≡ beforeData c ++ c .hevcData
-unfolding beforeData bodyBytes
+unfolding beforeData headersAndData
 data-file c n = file-entries c n ∙ simp append-assoc
 
 pub data-length : (c : Content) → length (beforeData c) ≡ dataStart c
@@ -107,7 +107,7 @@ unfolding contentOf recordOf
 content-record c r =
     let es : map (extensionOf (fileOf c)) (take (length (c .extensions)) (padEntries (entriesAt (blockStart c) (c .extensions)))) ≡ c .extensions =
     ap (map (extensionOf (fileOf c))) (used-entries (blockStart c) (c .extensions))
-    ∙ entries-back (c .extensions) (fileOf c) (beforeEntries c) (bodyBytes c) (blockStart c) (file-entries c (r .absent-block)) (sym (before-length c)) in
+    ∙ entries-back (c .extensions) (fileOf c) (beforeEntries c) (headersAndData c) (blockStart c) (file-entries c (r .absent-block)) (sym (before-length c)) in
     same (c) es (data-back c (r .absent-block))
   where
     same : (c : Content) {es : List Extension} {d : List ℕ} → es ≡ c .extensions → d ≡ c .hevcData
@@ -118,7 +118,7 @@ content-record c r =
           height = c .height;
           explicitLength = c .explicitLength;
           extensions = es;
-          loop = c .loop;
+          control = c .control;
           alphaHeader = c .alphaHeader;
           colorHeader = c .colorHeader;
           hevcData = d;

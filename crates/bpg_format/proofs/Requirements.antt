@@ -27,8 +27,8 @@ use Rattle.bpg_format.specs.Read.{readContent, readingStatuses}
 use Rattle.bpg_format.specs.Parts.{entryOf, payloadOf, dataOf, rangesOf, rangeEnd, InOrder, joined}
 use Rattle.bpg_format.specs.Write.{writeOutcome, writtenAnswer, writtenBuffer, writeFile, writeBuffer, WritingStatus, Typed, Writable}
 use Rattle.bpg_format.specs.Pictures.{Picture, pictureOf, canonicalContent, canonicalBytes, Shows, SamePicture, canonicalOutcome, canonicalFile, canonicalBuffer, CanonicalizingStatus}
-use Rattle.bpg_format.specs.Requirements.{noExtension, Refusals, Reading, Writing, Ranges, parts, part, RangesApart, bytes, OneFormPerPicture}
-use Rattle.bpg_format.proofs.Reading.{reads, answer, accepted-status, status-accepted, refusal, statuses, content-unique}
+use Rattle.bpg_format.specs.Requirements.{noExtension, Refusals, ExactReading, ExactWriting, Ranges, parts, part, RangesApart, bytes, OneFormPerPicture}
+use Rattle.bpg_format.proofs.ReadingLaws.{reads, answer, accepted-status, status-accepted, refusal, statuses, content-unique}
 use Rattle.bpg_format.proofs.ReadingRefusals.{content-refuses}
 use Rattle.bpg_format.proofs.RecordLaws.{content-record}
 use Rattle.bpg_format.proofs.RangeLaws.{ranges-in-order, ranges-whole, data-last, one-range, payload-part, last-part, parts-length, part-length, used-count}
@@ -132,7 +132,7 @@ the-data : (c : Content) → Rules c → dataOf (fileOf c) ≡ c .hevcData
 unfolding dataOf contentOf
 the-data c r = ap (λ (x : Content). x .hevcData) (the-content c r)
 
-pub reading : Reading
+pub reading : ExactReading
 reading =
     record {
       accepted = accepted-status;
@@ -186,7 +186,7 @@ same-file f out a h =
     let n : length (fileOf c) ≤ length out = subst (λ (g : List ℕ). length g ≤ length out) (a .2) h in
     rw (a .2, the-record c (a .1)) (success (writeOutcome (length out) (recordOf c) (fileOf c)) (fileOf c) out (record-written c (a .1) (length out) n))
 
-pub writing : Writing
+pub writing : ExactWriting
 writing = record { exactly = exactly; bytes = written-done; read-back = read-back; same-file = same-file }
 
 -- the parts of a record of which these two facts are known

@@ -14,7 +14,7 @@ use Rattle.bpg_bits.specs.BitNumbers.{expGolombBits}
 use Rattle.bpg_format.specs.declared.record.Header.{Header}
 use Rattle.bpg_format.specs.Zero.{zeroHeader}
 use Rattle.bpg_format.specs.Content.{Extension, Content, hasAlpha, bitDepth}
-use Rattle.bpg_format.specs.Syntax.{extensionBytes, blockBytes, extensionPart, pcmBits, spsExtensionBits, headerBits, headerBytes, bodyBytes, dataLength}
+use Rattle.bpg_format.specs.Syntax.{extensionBytes, blockBytes, extensionPart, pcmBits, spsExtensionBits, headerBits, headerBytes, headersAndData, dataLength}
 use Rattle.bpg_format.specs.Syntax.{fileOf}
 use Rattle.bpg_format.specs.FileCodec.{flags, dimension, payload, extension, seenAfter, extensions, block, oneBit, optional, SizeFields, sizeFields}
 use Rattle.bpg_format.specs.FileCodec.{pcmFields, spsFields, noPcm, noSps, fieldSequence, sizesOf, pcmOf, headerFields, header, alphaHeader, body}
@@ -98,8 +98,8 @@ alpha-encode false depth h = refl
 
 -- ---- the file
 
-pub body-encode : (c : Content) → body (c .flags) .encode (c .alphaHeader, (c .colorHeader, c .hevcData)) ≡ bodyBytes c
-unfolding body thenRest alphaHeader rest bodyBytes
+pub body-encode : (c : Content) → body (c .flags) .encode (c .alphaHeader, (c .colorHeader, c .hevcData)) ≡ headersAndData c
+unfolding body thenRest alphaHeader rest headersAndData
 body-encode c = rw (alpha-encode (hasAlpha (c .flags)) (bitDepth (c .flags)) (c .alphaHeader), header-encode (bitDepth (c .flags)) (c .colorHeader))
 
 pub length-encode : (c : Content) → lengthOf c ≡ dataLength c

@@ -13,12 +13,12 @@ use Rattle.bpg_codec.proofs.Select.{select-true, is-true, and-both, and-left, a
 use Rattle.bpg_codec.proofs.Outcome.{error-not-ok, unbind, unguard, guard-holds}
 use Rattle.bpg_format.specs.declared.record.Header.{Header}
 use Rattle.bpg_format.specs.Zero.{zeroHeader}
-use Rattle.bpg_format.specs.Content.{Extension, Loop}
-use Rattle.bpg_format.specs.Rules.{NoPcm, NoSpsExtension, FieldRules, HeaderRules, LoopPayload, isLoop, ExtensionRules, hasLoop, OneLoop}
+use Rattle.bpg_format.specs.Content.{Extension, AnimationControl}
+use Rattle.bpg_format.specs.Rules.{NoPcm, NoSpsExtension, FieldRules, HeaderRules, AnimationPayload, isAnimation, ExtensionRules, hasAnimation, OneAnimation}
 use Rattle.bpg_format.specs.Tests.{noForbiddenBit, hevcAllowed}
-use Rattle.bpg_format.specs.Read.{readLoop}
+use Rattle.bpg_format.specs.Read.{readAnimation}
 use Rattle.bpg_format.specs.FileCodec.{headerFrom, fieldsOf}
-use Rattle.bpg_format.specs.Write.{pcmZero, absentZero, headerZero, sameLoop, atZero, checkLoop, checkEntries, fieldsCoded, checkHeader}
+use Rattle.bpg_format.specs.Write.{pcmZero, absentZero, headerZero, sameAnimation, atZero, checkAnimation, checkEntries, fieldsCoded, checkHeader}
 use Rattle.bpg_format.proofs.HeaderRuleLaws.{passed, passes, by-flag, nine-zeros, forbidden-sound, forbidden-full, hevc-sound, hevc-full}
 use Rattle.bpg_format.proofs.RuleLaws.{loop-reads, loop-read, none-seen, seen-head, seen-tail}
 
@@ -115,54 +115,54 @@ at-zero : {A : Type 0} (m : Outcome A) (a : A) → atZero m ≡ ok a → m ≡ o
 at-zero (ok b) a e = e
 at-zero (error s o) a e = absurd (error-not-ok e)
 
-pub same-loop : (p q : Loop) → T (sameLoop p q) → p ≡ q
+pub same-loop : (p q : AnimationControl) → T (sameAnimation p q) → p ≡ q
 same-loop p q t =
     let e : (p .count ≡ q .count) × (p .periodNum ≡ q .periodNum) × (p .periodDen ≡ q .periodDen) = search passed in
     λ z. record { count = e .0 z; periodNum = e .1 z; periodDen = e .2 z }
 
-loop-same : (p : Loop) → sameLoop p p ≡ true
+loop-same : (p : AnimationControl) → sameAnimation p p ≡ true
 loop-same p = is-true _ (search (and-both, eqb-refl))
 
 -- a payload that passes holds the loop numbers
-loop-checked : (p : Loop) (l : List ℕ) → All Byte l → checkLoop p l ≡ ok tt → (dummy : List ℕ) × LoopPayload l p dummy
-unfolding checkLoop
+loop-checked : (p : AnimationControl) (l : List ℕ) → All Byte l → checkAnimation p l ≡ ok tt → (dummy : List ℕ) × AnimationPayload l p dummy
+unfolding checkAnimation
 loop-checked p l h e =
-    unbind (atZero (readLoop 0 l)) _ e λ x e1 e2.
-    rw (same-loop p x (guard-holds (sameLoop p x) 19 0 e2)) (loop-read l h 0 x (at-zero (readLoop 0 l) x e1))
+    unbind (atZero (readAnimation 0 l)) _ e λ x e1 e2.
+    rw (same-loop p x (guard-holds (sameAnimation p x) 19 0 e2)) (loop-read l h 0 x (at-zero (readAnimation 0 l) x e1))
 
-loop-passes : (p : Loop) (l dummy : List ℕ) → LoopPayload l p dummy → checkLoop p l ≡ ok tt
-unfolding checkLoop
+loop-passes : (p : AnimationControl) (l dummy : List ℕ) → AnimationPayload l p dummy → checkAnimation p l ≡ ok tt
+unfolding checkAnimation
 loop-passes p l dummy r = rw (loop-reads l p dummy r 0, loop-same p)
 
-pub record Checked (p : Loop) (seen : Bool) (es : List Extension) : Type 0 where
+pub record Checked (p : AnimationControl) (seen : Bool) (es : List Extension) : Type 0 where
   pub entries : All (ExtensionRules p) es
-  pub one-loop : OneLoop es
-  pub no-more : seen ≡ true → hasLoop es ≡ false
+  pub one-animation : OneAnimation es
+  pub no-more : seen ≡ true → hasAnimation es ≡ false
 
-entry-checked : (p : Loop) (e : Extension) → e .tag < 2 ^ 32 → All Byte (e .payload) → select (isLoop e) (checkLoop p (e .payload)) (ok tt) ≡ ok tt → ExtensionRules p e
-entry-checked p e t h k = record { tag = t; bytes = h; loop = λ l. loop-checked p (e .payload) h (sym (select-true _ _ l) ∙ k) }
+entry-checked : (p : AnimationControl) (e : Extension) → e .tag < 2 ^ 32 → All Byte (e .payload) → select (isAnimation e) (checkAnimation p (e .payload)) (ok tt) ≡ ok tt → ExtensionRules p e
+entry-checked p e t h k = record { tag = t; bytes = h; control = λ l. loop-checked p (e .payload) h (sym (select-true _ _ l) ∙ k) }
 
 abbrev pub TypedExtension : Extension → Type 0
 TypedExtension e = (e .tag < 2 ^ 32) × All Byte (e .payload)
 
-pub entries-checked : (p : Loop) (seen : Bool) (es : List Extension) → All TypedExtension es → checkEntries p seen es ≡ ok tt → Checked p seen es
+pub entries-checked : (p : AnimationControl) (seen : Bool) (es : List Extension) → All TypedExtension es → checkEntries p seen es ≡ ok tt → Checked p seen es
 unfolding checkEntries
-entries-checked p seen [] h e = record { entries = tt; one-loop = tt; no-more = λ s. refl }
+entries-checked p seen [] h e = record { entries = tt; one-animation = tt; no-more = λ s. refl }
 entries-checked p seen (x ∷ es) h e =
-    unguard (not (seen && isLoop x)) 13 0 _ e λ t e1.
-    unbind (select (isLoop x) (checkLoop p (x .payload)) (ok tt)) _ e1 λ u e2 e3.
-    let ih = entries-checked p (seen || isLoop x) es (h .1) e3 in
+    unguard (not (seen && isAnimation x)) 13 0 _ e λ t e1.
+    unbind (select (isAnimation x) (checkAnimation p (x .payload)) (ok tt)) _ e1 λ u e2 e3.
+    let ih = entries-checked p (seen || isAnimation x) es (h .1) e3 in
     record {
       entries = (entry-checked p x (h .0 .0) (h .0 .1) e2, ih .entries);
-      one-loop = ((λ l. ih .no-more (rw l (or-true seen))), ih .one-loop);
-      no-more = λ s. let n = none-seen seen (isLoop x) t s in rw n (ih .no-more (rw s));
+      one-animation = ((λ l. ih .no-more (rw l (or-true seen))), ih .one-animation);
+      no-more = λ s. let n = none-seen seen (isAnimation x) t s in rw n (ih .no-more (rw s));
     }
 
-pub entries-pass : (p : Loop) (seen : Bool) (es : List Extension) → All (ExtensionRules p) es → OneLoop es → (seen ≡ true → hasLoop es ≡ false) → checkEntries p seen es ≡ ok tt
+pub entries-pass : (p : AnimationControl) (seen : Bool) (es : List Extension) → All (ExtensionRules p) es → OneAnimation es → (seen ≡ true → hasAnimation es ≡ false) → checkEntries p seen es ≡ ok tt
 unfolding checkEntries
 entries-pass p seen [] r o f = refl
 entries-pass p seen (e ∷ es) r o f =
-    let n = is-true (not (seen && isLoop e)) (seen-head seen (isLoop e) (hasLoop es) f) in
-    let l = by-flag (λ (o : Outcome Unit). o ≡ ok tt) (isLoop e) (checkLoop p (e .payload)) (ok tt) (λ l. let d = r .0 .loop l in loop-passes p (e .payload) (d .0) (d .1)) (λ _. refl) in
+    let n = is-true (not (seen && isAnimation e)) (seen-head seen (isAnimation e) (hasAnimation es) f) in
+    let l = by-flag (λ (o : Outcome Unit). o ≡ ok tt) (isAnimation e) (checkAnimation p (e .payload)) (ok tt) (λ l. let d = r .0 .control l in loop-passes p (e .payload) (d .0) (d .1)) (λ _. refl) in
     rw (n, l)
-    (entries-pass p (seen || isLoop e) es (r .1) (o .1) (seen-tail seen (isLoop e) (hasLoop es) f (o .0)))
+    (entries-pass p (seen || isAnimation e) es (r .1) (o .1) (seen-tail seen (isAnimation e) (hasAnimation es) f (o .0)))

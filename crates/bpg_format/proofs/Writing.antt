@@ -22,10 +22,10 @@ use Rattle.bpg_format.specs.declared.record.Record.{Record}
 use Rattle.bpg_format.specs.Zero.{zeroEntry, zeroHeader}
 use Rattle.bpg_format.specs.Content.{isEmpty, Extension, Content, hasAlpha, bitDepth}
 use Rattle.bpg_format.specs.Syntax.{blockBytes, fileOf}
-use Rattle.bpg_format.specs.Rules.{HeaderRules, hasLoop, noLoop, Rules}
+use Rattle.bpg_format.specs.Rules.{HeaderRules, hasAnimation, noAnimation, Rules}
 use Rattle.bpg_format.specs.Tests.{colorSpaceAllowed}
 use Rattle.bpg_format.specs.Records.{entriesAt, blockStart, recordOf, extensionOf, usedEntries, contentOf}
-use Rattle.bpg_format.specs.Write.{inSource, entriesInSource, rangesInSource, isZero, zeroEntries, unusedZero, absentZero, sameLoop, consistent, checkEntries, checkHeader, checkContent, checkRecord, sizedFile, writeOutcome, Typed, Writable}
+use Rattle.bpg_format.specs.Write.{inSource, entriesInSource, rangesInSource, isZero, zeroEntries, unusedZero, absentZero, sameAnimation, consistent, checkEntries, checkHeader, checkContent, checkRecord, sizedFile, writeOutcome, Typed, Writable}
 use Rattle.bpg_format.proofs.HeaderRuleLaws.{unless-full, passed, by-flag}
 use Rattle.bpg_format.proofs.RuleLaws.{bool-apart, by-tag, flags-sound, flags-full, entry-size}
 use Rattle.bpg_format.proofs.RecordLaws.{used-entries, entries-length, content-record}
@@ -51,7 +51,7 @@ pub record TypedContent (c : Content) : Type 0 where
 -- 19
 record Consistent (c : Content) : Type 0 where
   absent-block : c .flags .extensionPresent ≡ false → c .extensions ≡ []
-  no-loop : hasLoop (c .extensions) ≡ false → c .loop ≡ noLoop
+  no-animation : hasAnimation (c .extensions) ≡ false → c .control ≡ noAnimation
   no-alpha : hasAlpha (c .flags) ≡ false → c .alphaHeader ≡ zeroHeader
   alpha : Absent (c .alphaHeader)
   color : Absent (c .colorHeader)
@@ -69,7 +69,7 @@ consistent-full : (c : Content) → Rules c → consistent c ≡ true
 unfolding consistent
 consistent-full c r =
     let block : T (c .flags .extensionPresent || isEmpty (c .extensions)) = or-full _ _ (λ e. rw (r .absent-block e) tt) in
-    let loop : T (hasLoop (c .extensions) || sameLoop (c .loop) noLoop) = or-full _ _ (λ e. rw (r .no-loop e) tt) in
+    let loop : T (hasAnimation (c .extensions) || sameAnimation (c .control) noAnimation) = or-full _ _ (λ e. rw (r .no-animation e) tt) in
     is-true _ (search (and-both, or-full, header-zero-full, r .no-alpha, alpha-absent, absent-full, absent-of) depth 8)
 
 content-checked : (c : Content) → TypedContent c → T (consistent c) → checkContent c ≡ ok tt → length (fileOf c) ≤ maxFile → Rules c
@@ -81,10 +81,10 @@ content-checked c h k e s =
     unguard (colorSpaceAllowed (c .flags)) 6 0 _ e2 λ t3 e3.
     unguard (notZero (c .width)) 9 0 _ e3 λ t4 e4.
     unguard (notZero (c .height)) 9 0 _ e4 λ t5 e5.
-    unbind (checkEntries (c .loop) false (c .extensions)) _ e5 λ u e6 e7.
-    unguard (not (c .flags .animation) || hasLoop (c .extensions)) 14 0 _ e7 λ t8 e8.
+    unbind (checkEntries (c .control) false (c .extensions)) _ e5 λ u e6 e7.
+    unguard (not (c .flags .animation) || hasAnimation (c .extensions)) 14 0 _ e7 λ t8 e8.
     unbind (select (hasAlpha (c .flags)) (checkHeader (bitDepth (c .flags)) (c .alphaHeader)) (ok tt)) _ e8 λ v e9 e10.
-    let es = entries-checked (c .loop) false (c .extensions) (h .extensions) e6 in
+    let es = entries-checked (c .control) false (c .extensions) (h .extensions) e6 in
     let alpha : hasAlpha (c .flags) ≡ true → HeaderRules (bitDepth (c .flags)) (c .alphaHeader) =
     λ f. header-checked (c .alphaHeader) _ (sym (select-true _ _ f) ∙ e9) (a .alpha) (h .alpha-nine) in
     let color = header-checked (c .colorHeader) _ e10 (a .color) (h .color-nine) in
@@ -101,8 +101,8 @@ content-passes c r =
       is-true (colorSpaceAllowed (c .flags)) (f .color-space),
       is-true (notZero (c .width)) (no-eqb (r .width-not-zero)),
       is-true (notZero (c .height)) (no-eqb (r .height-not-zero)),
-      entries-pass (c .loop) false (c .extensions) (r .entries) (r .one-loop) (λ e. bool-apart e refl),
-      is-true (not (c .flags .animation) || hasLoop (c .extensions)) (unless-full (c .flags .animation) (hasLoop (c .extensions)) (λ a. rw (r .animated a) tt)),
+      entries-pass (c .control) false (c .extensions) (r .entries) (r .one-animation) (λ e. bool-apart e refl),
+      is-true (not (c .flags .animation) || hasAnimation (c .extensions)) (unless-full (c .flags .animation) (hasAnimation (c .extensions)) (λ a. rw (r .animated a) tt)),
       alpha,
     )
     (header-passes (c .colorHeader) (bitDepth (c .flags)) (r .color-header))

@@ -12,13 +12,13 @@ use Rattle.bpg_numbers.specs.Ue7.{notZero}
 use Rattle.bpg_format.specs.declared.record.Header.{Header}
 use Rattle.bpg_format.specs.declared.record.Record.{Record}
 use Rattle.bpg_format.specs.Limits.{maxEntries, maxFile}
-use Rattle.bpg_format.specs.Content.{Extension, Loop, Content, hasAlpha, bitDepth}
+use Rattle.bpg_format.specs.Content.{Extension, AnimationControl, Content, hasAlpha, bitDepth}
 use Rattle.bpg_format.specs.Syntax.{fileOf}
-use Rattle.bpg_format.specs.Rules.{isLoop, hasLoop}
+use Rattle.bpg_format.specs.Rules.{isAnimation, hasAnimation}
 use Rattle.bpg_format.specs.Tests.{colorSpaceAllowed, noForbiddenBit, hevcAllowed}
-use Rattle.bpg_format.specs.Read.{readLoop}
+use Rattle.bpg_format.specs.Read.{readAnimation}
 use Rattle.bpg_format.specs.Records.{contentOf}
-use Rattle.bpg_format.specs.Write.{rangesInSource, unusedZero, consistent, sameLoop, atZero, checkLoop, checkEntries, fieldsCoded, checkHeader, checkContent, checkRecord, sizedFile, writeOutcome, WritingStatus}
+use Rattle.bpg_format.specs.Write.{rangesInSource, unusedZero, consistent, sameAnimation, atZero, checkAnimation, checkEntries, fieldsCoded, checkHeader, checkContent, checkRecord, sizedFile, writeOutcome, WritingStatus}
 use Rattle.bpg_format.proofs.ReadingRefusals.{loop-refuses}
 
 abbrev pub AtZero : (status offset : ℕ) → Type 0
@@ -38,21 +38,21 @@ at-zero-refuses : {A : Type 0} (m : Outcome A) → Refuses (λ s o. WritingStatu
 at-zero-refuses (ok a) h = refuses-ok AtZero a
 at-zero-refuses (error s o) h = refuses-error AtZero s 0 (h s o refl, refl)
 
-pub loop-check : (p : Loop) (l : List ℕ) → R (checkLoop p l)
-unfolding checkLoop
+pub loop-check : (p : AnimationControl) (l : List ℕ) → R (checkAnimation p l)
+unfolding checkAnimation
 loop-check p l =
     let own = loop-refuses (λ s o. WritingStatus s) (λ _. tt) (λ _. tt) (λ _. tt) (λ _. tt) in
-    refuses-bind AtZero (atZero (readLoop 0 l)) _ (at-zero-refuses (readLoop 0 l) (own 0 l)) λ x.
-    last-rule (sameLoop p x) 19 (tt, refl)
+    refuses-bind AtZero (atZero (readAnimation 0 l)) _ (at-zero-refuses (readAnimation 0 l) (own 0 l)) λ x.
+    last-rule (sameAnimation p x) 19 (tt, refl)
 
-pub entries-check : (p : Loop) (seen : Bool) (es : List Extension) → R (checkEntries p seen es)
+pub entries-check : (p : AnimationControl) (seen : Bool) (es : List Extension) → R (checkEntries p seen es)
 unfolding checkEntries
 entries-check p seen [] = refuses-ok AtZero tt
 entries-check p seen (e ∷ es) =
-    rule (not (seen && isLoop e)) 13 _ (tt, refl)
-    (refuses-bind AtZero (select (isLoop e) (checkLoop p (e .payload)) (ok tt)) _
-    (refuses-select AtZero (isLoop e) _ _ (loop-check p (e .payload)) (refuses-ok AtZero tt)) λ _.
-    entries-check p (seen || isLoop e) es)
+    rule (not (seen && isAnimation e)) 13 _ (tt, refl)
+    (refuses-bind AtZero (select (isAnimation e) (checkAnimation p (e .payload)) (ok tt)) _
+    (refuses-select AtZero (isAnimation e) _ _ (loop-check p (e .payload)) (refuses-ok AtZero tt)) λ _.
+    entries-check p (seen || isAnimation e) es)
 
 pub header-check : (depth : ℕ) (h : Header) → R (checkHeader depth h)
 unfolding checkHeader
@@ -67,8 +67,8 @@ content-check c =
     (rule (colorSpaceAllowed (c .flags)) 6 _ (tt, refl)
     (rule (notZero (c .width)) 9 _ (tt, refl)
     (rule (notZero (c .height)) 9 _ (tt, refl)
-    (refuses-bind AtZero (checkEntries (c .loop) false (c .extensions)) _ (entries-check (c .loop) false (c .extensions)) λ _.
-    rule (not (c .flags .animation) || hasLoop (c .extensions)) 14 _ (tt, refl)
+    (refuses-bind AtZero (checkEntries (c .control) false (c .extensions)) _ (entries-check (c .control) false (c .extensions)) λ _.
+    rule (not (c .flags .animation) || hasAnimation (c .extensions)) 14 _ (tt, refl)
     (refuses-bind AtZero (select (hasAlpha (c .flags)) (checkHeader (bitDepth (c .flags)) (c .alphaHeader)) (ok tt)) _
     (refuses-select AtZero (hasAlpha (c .flags)) _ _ (header-check (bitDepth (c .flags)) (c .alphaHeader)) (refuses-ok AtZero tt)) λ _.
     header-check (bitDepth (c .flags)) (c .colorHeader)))))))

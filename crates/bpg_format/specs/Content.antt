@@ -21,7 +21,7 @@ pub record Extension : Type 0 where
   pub payload : List ℕ
 
 -- the numbers of a tag 5 payload (item 5); all zero where there is none
-pub record Loop : Type 0 where
+pub record AnimationControl : Type 0 where
   pub count : ℕ
   pub periodNum : ℕ
   pub periodDen : ℕ
@@ -33,7 +33,7 @@ pub record Content : Type 0 where
   -- the data length is coded as a number (document 01: counted), and not as zero (open)
   pub explicitLength : Bool
   pub extensions : List Extension
-  pub loop : Loop
+  pub control : AnimationControl
   -- the alpha (or W) plane's header, zero where there is none
   pub alphaHeader : Header
   pub colorHeader : Header

@@ -18,11 +18,11 @@ use Rattle.bpg_bits.specs.BitNumbers.{unsigned, expGolomb}
 use Rattle.bpg_format.specs.Limits.{maxEntries, maxFile}
 use Rattle.bpg_format.specs.declared.record.Header.{Header}
 use Rattle.bpg_format.specs.Zero.{zeroHeader}
-use Rattle.bpg_format.specs.Content.{Flags, Extension, Loop, Content, hasAlpha, bitDepth}
+use Rattle.bpg_format.specs.Content.{Flags, Extension, AnimationControl, Content, hasAlpha, bitDepth}
 use Rattle.bpg_format.specs.Syntax.{magic, byte4, byte5}
-use Rattle.bpg_format.specs.Rules.{isLoop, hasLoop}
-use Rattle.bpg_format.specs.Tests.{colorSpaceAllowed, countsBody, noForbiddenBit, hevcAllowed}
-use Rattle.bpg_format.specs.Read.{readFlags, loopOf}
+use Rattle.bpg_format.specs.Rules.{isAnimation, hasAnimation}
+use Rattle.bpg_format.specs.Tests.{colorSpaceAllowed, countsToEnd, noForbiddenBit, hevcAllowed}
+use Rattle.bpg_format.specs.Read.{readFlags, animationOf}
 
 -- ---- items 1 and 2: magic, byte 4, byte 5
 
@@ -50,12 +50,12 @@ unfoldable pub period : Codec ℕ ℕ
 period = guarded (ue7 16) notZero 12 atOwn
 
 -- loop count, period numerator, period denominator, dummy bytes
-unfoldable pub loopNumbers : Exact ℕ (ℕ × (ℕ × (ℕ × List ℕ)))
-loopNumbers = thenRest (ue7 16) λ _. thenRest period λ _. thenRest period λ _. rest Byte
+unfoldable pub animationCodec : Exact ℕ (ℕ × (ℕ × (ℕ × List ℕ)))
+animationCodec = thenRest (ue7 16) λ _. thenRest period λ _. thenRest period λ _. rest Byte
 
 -- a payload is kept as its bytes; a tag 5 payload must be readable
 unfoldable pub payload : (animation : Bool) → Exact ℕ (List ℕ)
-payload animation = select animation (verbatim loopNumbers) (rest Byte)
+payload animation = select animation (verbatim animationCodec) (rest Byte)
 
 -- `seen`: an entry with tag 5 stands before it
 unfoldable pub extension : Bool → Codec ℕ Extension
@@ -64,7 +64,7 @@ extension seen =
     (λ x. record { tag = x .0; payload = x .1 }) (λ e. (e .tag, e .payload))
 
 abbrev pub seenAfter : Bool → Extension → Bool
-seenAfter seen e = seen || isLoop e
+seenAfter seen e = seen || isAnimation e
 
 unfoldable pub extensions : Exact ℕ (List Extension)
 extensions = repeated extension seenAfter 11 maxEntries false
@@ -213,8 +213,8 @@ body f = thenRest (alphaHeader f) λ _. thenRest (header (bitDepth f)) λ _. res
 -- 14, then 10, before them
 unfoldable pub judgedBody : Flags → (dataLength : ℕ) → List Extension → Exact ℕ (Header × (Header × List ℕ))
 judgedBody f n es =
-    guardedRegion (λ _. not (f .animation) || hasLoop es) 14 (λ _ _. 5)
-    (guardedRegion (λ l. countsBody n (length l)) 10 atItem (body f))
+    guardedRegion (λ _. not (f .animation) || hasAnimation es) 14 (λ _ _. 5)
+    (guardedRegion (λ l. countsToEnd n (length l)) 10 atItem (body f))
 
 -- ---- the file
 
@@ -231,10 +231,10 @@ parts =
     thenRest (block (f .extensionPresent)) λ es.
     judgedBody f n es)
 
-unfoldable pub withLoop : Exact ℕ (Parts × Loop)
-withLoop = derived parts (λ x. loopOf (x .1 .1 .1 .1 .0))
+unfoldable pub withLoop : Exact ℕ (Parts × AnimationControl)
+withLoop = derived parts (λ x. animationOf (x .1 .1 .1 .1 .0))
 
-abbrev pub contentFrom : Parts × Loop → Content
+abbrev pub contentFrom : Parts × AnimationControl → Content
 contentFrom x =
     record {
       flags = x .0 .0;
@@ -242,7 +242,7 @@ contentFrom x =
       height = x .0 .1 .1 .0;
       explicitLength = notZero (x .0 .1 .1 .1 .0);
       extensions = x .0 .1 .1 .1 .1 .0;
-      loop = x .1;
+      control = x .1;
       alphaHeader = x .0 .1 .1 .1 .1 .1 .0;
       colorHeader = x .0 .1 .1 .1 .1 .1 .1 .0;
       hevcData = x .0 .1 .1 .1 .1 .1 .1 .1;
@@ -251,9 +251,9 @@ contentFrom x =
 abbrev pub lengthOf : Content → ℕ
 lengthOf c = select (c .explicitLength) (length (body (c .flags) .encode (c .alphaHeader, (c .colorHeader, c .hevcData)))) 0
 
-abbrev pub partsOf : Content → Parts × Loop
+abbrev pub partsOf : Content → Parts × AnimationControl
 partsOf c =
-    ((c .flags, (c .width, (c .height, (lengthOf c, (c .extensions, (c .alphaHeader, (c .colorHeader, c .hevcData))))))), c .loop)
+    ((c .flags, (c .width, (c .height, (lengthOf c, (c .extensions, (c .alphaHeader, (c .colorHeader, c .hevcData))))))), c .control)
 
 unfoldable pub file : Exact ℕ Content
 file = mappedExact withLoop contentFrom partsOf

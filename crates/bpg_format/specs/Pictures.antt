@@ -12,9 +12,9 @@ use Rattle.bpg_codec.specs.Bits.{allZero}
 use Rattle.bpg_numbers.specs.Ue7.{ue7Bytes}
 use Rattle.bpg_format.specs.declared.record.Header.{Header}
 use Rattle.bpg_format.specs.declared.answer.Written.{Written}
-use Rattle.bpg_format.specs.Content.{isEmpty, Extension, Loop, Content}
+use Rattle.bpg_format.specs.Content.{isEmpty, Extension, AnimationControl, Content}
 use Rattle.bpg_format.specs.Syntax.{fileOf}
-use Rattle.bpg_format.specs.Rules.{isLoop, Rules}
+use Rattle.bpg_format.specs.Rules.{isAnimation, Rules}
 use Rattle.bpg_format.specs.Read.{readContent, readingStatuses}
 use Rattle.bpg_format.specs.Write.{writtenAnswer, writtenBuffer}
 
@@ -51,7 +51,7 @@ pub record Picture : Type 0 where
   pub width : ℕ
   pub height : ℕ
   pub entries : List Extension
-  pub loop : Loop
+  pub control : AnimationControl
   pub alphaHeader : PictureHeader
   pub colorHeader : PictureHeader
   pub hevcData : List ℕ
@@ -77,7 +77,7 @@ pictureHeader h =
     }
 
 abbrev pub pictureEntry : Extension → Extension
-pictureEntry e = record { tag = e .tag; payload = select (isLoop e) [] (e .payload) }
+pictureEntry e = record { tag = e .tag; payload = select (isAnimation e) [] (e .payload) }
 
 unfoldable pub pictureOf : Content → Picture
 pictureOf c =
@@ -92,7 +92,7 @@ pictureOf c =
       width = c .width;
       height = c .height;
       entries = map pictureEntry (c .extensions);
-      loop = c .loop;
+      control = c .control;
       alphaHeader = pictureHeader (c .alphaHeader);
       colorHeader = pictureHeader (c .colorHeader);
       hevcData = c .hevcData;
@@ -135,11 +135,11 @@ headerWith sps range h =
       «range_flags» = h .rangeFlags;
     }
 
-abbrev pub loopBytes : Loop → (dummy : List ℕ) → List ℕ
-loopBytes p dummy = ue7Bytes (p .count) ++ (ue7Bytes (p .periodNum) ++ (ue7Bytes (p .periodDen) ++ dummy))
+abbrev pub animationBytes : AnimationControl → (dummy : List ℕ) → List ℕ
+animationBytes p dummy = ue7Bytes (p .count) ++ (ue7Bytes (p .periodNum) ++ (ue7Bytes (p .periodDen) ++ dummy))
 
-abbrev pub entryWith : Loop → (dummy : List ℕ) → Extension → Extension
-entryWith p dummy e = record { tag = e .tag; payload = select (isLoop e) (loopBytes p dummy) (e .payload) }
+abbrev pub entryWith : AnimationControl → (dummy : List ℕ) → Extension → Extension
+entryWith p dummy e = record { tag = e .tag; payload = select (isAnimation e) (animationBytes p dummy) (e .payload) }
 
 unfoldable pub withChoices : Picture → Choices → Content
 withChoices p ch =
@@ -158,8 +158,8 @@ withChoices p ch =
       width = p .width;
       height = p .height;
       explicitLength = ch .explicitLength;
-      extensions = map (entryWith (p .loop) (ch .dummy)) (p .entries);
-      loop = p .loop;
+      extensions = map (entryWith (p .control) (ch .dummy)) (p .entries);
+      control = p .control;
       alphaHeader = headerWith (ch .alphaSps) (ch .alphaRange) (p .alphaHeader);
       colorHeader = headerWith (ch .colorSps) (ch .colorRange) (p .colorHeader);
       hevcData = p .hevcData;

@@ -15,10 +15,10 @@ use Rattle.bpg_bits.specs.BitNumbers.{unsignedDecode, expGolombDecode}
 use Rattle.bpg_format.specs.Limits.{maxEntries, maxFile}
 use Rattle.bpg_format.specs.declared.record.Header.{Header}
 use Rattle.bpg_format.specs.Zero.{zeroHeader}
-use Rattle.bpg_format.specs.Content.{Flags, Extension, Loop, Content, hasAlpha, bitDepth}
+use Rattle.bpg_format.specs.Content.{Flags, Extension, AnimationControl, Content, hasAlpha, bitDepth}
 use Rattle.bpg_format.specs.Syntax.{magic}
-use Rattle.bpg_format.specs.Rules.{isLoop, hasLoop, noLoop}
-use Rattle.bpg_format.specs.Tests.{colorSpaceAllowed, countsBody, noForbiddenBit, hevcAllowed}
+use Rattle.bpg_format.specs.Rules.{isAnimation, hasAnimation, noAnimation}
+use Rattle.bpg_format.specs.Tests.{colorSpaceAllowed, countsToEnd, noForbiddenBit, hevcAllowed}
 
 -- what a flag leaves out has this value, and takes no bytes
 abbrev pub ifPresent : {S A : Type 0} → (present : Bool) (absent : A) → ((p : ℕ) → List S → Outcome (Decoded S A)) → (p : ℕ) → List S → Outcome (Decoded S A)
@@ -94,8 +94,8 @@ readHead l =
 -- ---- item 5: a tag 5 payload
 
 -- loop count, period numerator, period denominator, each period number not 0 (12 as it is read); what follows them is free
-unfoldable pub readLoop : (p : ℕ) → List ℕ → Outcome Loop
-readLoop p l =
+unfoldable pub readAnimation : (p : ℕ) → List ℕ → Outcome AnimationControl
+readAnimation p l =
     ue7Decode 16 p l >>= λ count.
     ue7Decode 16 (count .next) (count .rest) >>= λ num.
     guard (notZero (num .value)) 12 (count .next) >>= λ _.
@@ -104,14 +104,14 @@ readLoop p l =
     ok (record { count = count .value; periodNum = num .value; periodDen = den .value })
 
 -- the numbers that were read, or zeros
-abbrev pub loopFrom : Outcome Loop → Loop
-loopFrom (ok p) = p
-loopFrom (error s o) = noLoop
+abbrev pub animationFrom : Outcome AnimationControl → AnimationControl
+animationFrom (ok p) = p
+animationFrom (error s o) = noAnimation
 
 -- the numbers of the entry with tag 5; zeros where there is none
-unfoldable pub loopOf : List Extension → Loop
-loopOf [] = noLoop
-loopOf (e ∷ es) = select (isLoop e) (loopFrom (readLoop 0 (e .payload))) (loopOf es)
+unfoldable pub animationOf : List Extension → AnimationControl
+animationOf [] = noAnimation
+animationOf (e ∷ es) = select (isAnimation e) (animationFrom (readAnimation 0 (e .payload))) (animationOf es)
 
 -- ---- item 4: the extension block
 
@@ -123,7 +123,7 @@ readEntry seen p l =
     let payload = take (size .value) (size .rest) in
     guard (leb (size .value) (length (size .rest))) 2 (tag .next) >>= λ _.
     guard (not (seen && eqb (tag .value) 5)) 13 p >>= λ _.
-    select (eqb (tag .value) 5) (readLoop (size .next) payload) (ok noLoop) >>= λ _.
+    select (eqb (tag .value) 5) (readAnimation (size .next) payload) (ok noAnimation) >>= λ _.
     ok (decoded (record { tag = tag .value; payload = payload }) (size .next + size .value) (drop (size .value) (size .rest)))
 
 -- until the block is used up; one entry too many is 11, before it is looked at
@@ -133,7 +133,7 @@ readEntries zero seen p (x ∷ l) = error 11 p
 readEntries (suc most) seen p [] = ok []
 readEntries (suc most) seen p (x ∷ l) =
     readEntry seen p (x ∷ l) >>= λ e.
-    readEntries most (seen || isLoop (e .value)) (e .next) (e .rest) >>= λ es.
+    readEntries most (seen || isAnimation (e .value)) (e .next) (e .rest) >>= λ es.
     ok (e .value ∷ es)
 
 -- the block fits, its entries; l is what is left after the head
@@ -215,8 +215,8 @@ unfoldable pub readBody : Head → List ℕ → Outcome Content
 readBody h l =
     let body = drop (h .extensionLength) l in
     readBlock h l >>= λ es.
-    guard (not (h .flags .animation) || hasLoop es) 14 5 >>= λ _.
-    guard (countsBody (h .dataLength) (length body)) 10 (h .dataLengthAt) >>= λ _.
+    guard (not (h .flags .animation) || hasAnimation es) 14 5 >>= λ _.
+    guard (countsToEnd (h .dataLength) (length body)) 10 (h .dataLengthAt) >>= λ _.
     readAlphaHeader (h .flags) (h .end + h .extensionLength) body >>= λ alpha.
     readHeader (bitDepth (h .flags)) (alpha .next) (alpha .rest) >>= λ color.
     ok
@@ -226,7 +226,7 @@ readBody h l =
       height = h .height;
       explicitLength = notZero (h .dataLength);
       extensions = es;
-      loop = loopOf es;
+      control = animationOf es;
       alphaHeader = alpha .value;
       colorHeader = color .value;
       hevcData = color .rest;

@@ -12,7 +12,7 @@ use Rattle.bpg_format.specs.declared.record.Header.{Header}
 use Rattle.bpg_format.specs.declared.record.Record.{Record}
 use Rattle.bpg_format.specs.declared.answer.Reading.{Reading}
 use Rattle.bpg_format.specs.Zero.{range, zeroEntry, zeroHeader, refusedReading}
-use Rattle.bpg_format.specs.Content.{Flags, Extension, Loop, Content, hasAlpha}
+use Rattle.bpg_format.specs.Content.{Flags, Extension, AnimationControl, Content, hasAlpha}
 use Rattle.bpg_format.specs.Syntax.{blockBytes, headerBytes, dataLength}
 use Rattle.bpg_format.specs.Rules.{minCbLog2SizeY}
 use Rattle.bpg_format.specs.Read.{readContent}
@@ -31,11 +31,11 @@ abbrev pub padEntries : List Entry → List Entry
 padEntries es = es ++ replicate (maxEntries - length es) zeroEntry
 
 -- where the extension length would stand: after magic, bytes 4 and 5, width, height and data length
-unfoldable pub headEnd : Content → ℕ
-headEnd c = 6 + length (ue7Bytes (c .width)) + length (ue7Bytes (c .height)) + length (ue7Bytes (dataLength c))
+unfoldable pub extensionLengthStart : Content → ℕ
+extensionLengthStart c = 6 + length (ue7Bytes (c .width)) + length (ue7Bytes (c .height)) + length (ue7Bytes (dataLength c))
 
 unfoldable pub blockStart : Content → ℕ
-blockStart c = headEnd c + select (c .flags .extensionPresent) (length (ue7Bytes (length (blockBytes (c .extensions))))) 0
+blockStart c = extensionLengthStart c + select (c .flags .extensionPresent) (length (ue7Bytes (length (blockBytes (c .extensions))))) 0
 
 unfoldable pub dataStart : Content → ℕ
 dataStart c =
@@ -58,9 +58,9 @@ recordOf c =
       «explicit_length» = c .explicitLength;
       «entry_count» = length (c .extensions);
       entries = padEntries (entriesAt (blockStart c) (c .extensions));
-      «loop_count» = c .loop .count;
-      «frame_period_num» = c .loop .periodNum;
-      «frame_period_den» = c .loop .periodDen;
+      «loop_count» = c .control .count;
+      «frame_period_num» = c .control .periodNum;
+      «frame_period_den» = c .control .periodDen;
       headers = c .alphaHeader ∷ c .colorHeader ∷ [];
       «data» = range (dataStart c) (length (c .hevcData));
     }
@@ -89,8 +89,8 @@ recordFlags r =
       animation = r .«animation_flag»;
     }
 
-abbrev pub recordLoop : Record → Loop
-recordLoop r = record { count = r .«loop_count»; periodNum = r .«frame_period_num»; periodDen = r .«frame_period_den» }
+abbrev pub recordAnimation : Record → AnimationControl
+recordAnimation r = record { count = r .«loop_count»; periodNum = r .«frame_period_num»; periodDen = r .«frame_period_den» }
 
 unfoldable pub contentOf : Record → List ℕ → Content
 contentOf r source =
@@ -100,7 +100,7 @@ contentOf r source =
       height = r .«picture_height»;
       explicitLength = r .«explicit_length»;
       extensions = map (extensionOf source) (usedEntries r);
-      loop = recordLoop r;
+      control = recordAnimation r;
       alphaHeader = getD (r .headers) 0 zeroHeader;
       colorHeader = getD (r .headers) 1 zeroHeader;
       hevcData = bytesIn source (r .«data»);

@@ -51,7 +51,7 @@ noExtension = record { tag = 0; payload = [] }
 
 -- 2. "A file is read as a record exactly when it meets BPG 0.9.5 as document 01 condenses it, shortest integers included; the record is the
 -- one that syntax gives."
-pub record Reading : Type 0 where
+pub record ExactReading : Type 0 where
   pub accepted : (f : List ℕ) → Accepted f → readFile f .status ≡ 0
   -- a file is a list of bytes
   pub only-accepted : (f : List ℕ) → All Byte f → readFile f .status ≡ 0 → Accepted f
@@ -65,7 +65,7 @@ pub record Reading : Type 0 where
   pub the-data : (c : Content) → Rules c → dataOf (fileOf c) ≡ c .hevcData
 
 -- "Each accepted record is written as the file the syntax gives, and read back with the same content."
-pub record Writing : Type 0 where
+pub record ExactWriting : Type 0 where
   pub exactly : (r : Record) (source out : List ℕ) → Typed r → All Byte source → (writeFile r source out .status ≡ 0) ↔ Writable (length out) r source
   -- the file from the start of the buffer, and the rest of the buffer as it was
   pub bytes : (r : Record) (source out : List ℕ) → Writable (length out) r source

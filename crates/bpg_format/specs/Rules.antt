@@ -10,7 +10,7 @@ use Rattle.bpg_codec.specs.Lawful.{All, Byte}
 use Rattle.bpg_numbers.specs.Ue7.{ue7Bytes}
 use Rattle.bpg_format.specs.Limits.{maxEntries, maxFile}
 use Rattle.bpg_format.specs.declared.record.Header.{Header}
-use Rattle.bpg_format.specs.Content.{Extension, Loop, Content, hasAlpha, bitDepth}
+use Rattle.bpg_format.specs.Content.{Extension, AnimationControl, Content, hasAlpha, bitDepth}
 use Rattle.bpg_format.specs.Syntax.{fileOf}
 use Rattle.bpg_format.specs.Zero.{zeroHeader}
 
@@ -93,7 +93,7 @@ pub record HeaderRules (depth : ℕ) (h : Header) : Type 0 where
 -- ---- the extension block
 
 -- item 5: loop count, period numerator, period denominator, each ue7(16), both period numbers not 0 (refusal 12), then dummy bytes
-pub record LoopPayload (l : List ℕ) (p : Loop) (dummy : List ℕ) : Type 0 where
+pub record AnimationPayload (l : List ℕ) (p : AnimationControl) (dummy : List ℕ) : Type 0 where
   pub is : l ≡ ue7Bytes (p .count) ++ (ue7Bytes (p .periodNum) ++ (ue7Bytes (p .periodDen) ++ dummy))
   pub count : p .count < 2 ^ 16
   pub num : p .periodNum < 2 ^ 16
@@ -102,26 +102,26 @@ pub record LoopPayload (l : List ℕ) (p : Loop) (dummy : List ℕ) : Type 0 whe
   pub den-not-zero : p .periodDen ≢ 0
   pub bytes : All Byte dummy
 
-abbrev pub isLoop : Extension → Bool
-isLoop e = eqb (e .tag) 5
+abbrev pub isAnimation : Extension → Bool
+isAnimation e = eqb (e .tag) 5
 
 -- a tag 5 payload holds the file's loop numbers
-pub record ExtensionRules (p : Loop) (e : Extension) : Type 0 where
+pub record ExtensionRules (p : AnimationControl) (e : Extension) : Type 0 where
   pub tag : e .tag < 2 ^ 32
   pub bytes : All Byte (e .payload)
-  pub loop : isLoop e ≡ true → (dummy : List ℕ) × LoopPayload (e .payload) p dummy
+  pub control : isAnimation e ≡ true → (dummy : List ℕ) × AnimationPayload (e .payload) p dummy
 
-abbrev pub hasLoop : List Extension → Bool
-hasLoop [] = false
-hasLoop (e ∷ es) = isLoop e || hasLoop es
+abbrev pub hasAnimation : List Extension → Bool
+hasAnimation [] = false
+hasAnimation (e ∷ es) = isAnimation e || hasAnimation es
 
 -- at most one with tag 5 (refusal 13)
-abbrev pub OneLoop : List Extension → Type 0
-OneLoop [] = Unit {0}
-OneLoop (e ∷ es) = (isLoop e ≡ true → hasLoop es ≡ false) × OneLoop es
+abbrev pub OneAnimation : List Extension → Type 0
+OneAnimation [] = Unit {0}
+OneAnimation (e ∷ es) = (isAnimation e ≡ true → hasAnimation es ≡ false) × OneAnimation es
 
-abbrev pub noLoop : Loop
-noLoop = record { count = 0; periodNum = 0; periodDen = 0 }
+abbrev pub noAnimation : AnimationControl
+noAnimation = record { count = 0; periodNum = 0; periodDen = 0 }
 
 -- ---- the file
 
@@ -139,10 +139,10 @@ pub record Rules (c : Content) : Type 0 where
   -- the extension block: 11, 12, 13, 14
   pub absent-block : c .flags .extensionPresent ≡ false → c .extensions ≡ []
   pub entry-limit : length (c .extensions) ≤ maxEntries
-  pub entries : All (ExtensionRules (c .loop)) (c .extensions)
-  pub one-loop : OneLoop (c .extensions)
-  pub no-loop : hasLoop (c .extensions) ≡ false → c .loop ≡ noLoop
-  pub animated : c .flags .animation ≡ true → hasLoop (c .extensions) ≡ true
+  pub entries : All (ExtensionRules (c .control)) (c .extensions)
+  pub one-animation : OneAnimation (c .extensions)
+  pub no-animation : hasAnimation (c .extensions) ≡ false → c .control ≡ noAnimation
+  pub animated : c .flags .animation ≡ true → hasAnimation (c .extensions) ≡ true
   -- the headers: 15, 16, 17
   pub no-alpha : hasAlpha (c .flags) ≡ false → c .alphaHeader ≡ zeroHeader
   pub alpha-header : hasAlpha (c .flags) ≡ true → HeaderRules (bitDepth (c .flags)) (c .alphaHeader)

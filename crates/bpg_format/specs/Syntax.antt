@@ -66,11 +66,11 @@ unfoldable pub headerBytes : Header → List ℕ
 headerBytes h = ue7Bytes (length (padded (headerBits h))) ++ padded (headerBits h)
 
 -- items 6 and 7, which the data length counts: the alpha plane's header first, the colour's, and the data
-unfoldable pub bodyBytes : Content → List ℕ
-bodyBytes c = select (hasAlpha (c .flags)) (headerBytes (c .alphaHeader)) [] ++ (headerBytes (c .colorHeader) ++ c .hevcData)
+unfoldable pub headersAndData : Content → List ℕ
+headersAndData c = select (hasAlpha (c .flags)) (headerBytes (c .alphaHeader)) [] ++ (headerBytes (c .colorHeader) ++ c .hevcData)
 
 unfoldable pub dataLength : Content → ℕ
-dataLength c = select (c .explicitLength) (length (bodyBytes c)) 0
+dataLength c = select (c .explicitLength) (length (headersAndData c)) 0
 
 unfoldable pub fileOf : Content → List ℕ
 fileOf c =
@@ -81,4 +81,4 @@ fileOf c =
     ++ (ue7Bytes (c .height)
     ++ (ue7Bytes (dataLength c)
     ++ (extensionPart (c .flags .extensionPresent) (c .extensions)
-    ++ bodyBytes c)))))
+    ++ headersAndData c)))))

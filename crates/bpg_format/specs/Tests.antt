@@ -12,8 +12,8 @@ abbrev pub colorSpaceAllowed : Flags → Bool
 colorSpaceAllowed f = leb (f .colorSpace) 4 && (not (eqb (f .pixelFormat) 0) || eqb (f .colorSpace) 0)
 
 -- refusal 10: the data length counts the headers and the data, `size` bytes, or is zero
-abbrev pub countsBody : (dataLength size : ℕ) → Bool
-countsBody n size = eqb n 0 || eqb n size
+abbrev pub countsToEnd : (dataLength size : ℕ) → Bool
+countsToEnd n size = eqb n 0 || eqb n size
 
 -- refusal 17: the seven bits; explicit rdpcm, extended precision, high precision offsets, cabac bypass alignment
 abbrev pub rangeFlag : Header → ℕ → Bool

@@ -18,11 +18,11 @@ use Rattle.bpg_format.specs.declared.record.Header.{Header}
 use Rattle.bpg_format.specs.declared.record.Record.{Record}
 use Rattle.bpg_format.specs.declared.answer.Written.{Written}
 use Rattle.bpg_format.specs.Zero.{zeroEntry, zeroHeader, refusedWritten}
-use Rattle.bpg_format.specs.Content.{isEmpty, Extension, Loop, Content, hasAlpha, bitDepth}
+use Rattle.bpg_format.specs.Content.{isEmpty, Extension, AnimationControl, Content, hasAlpha, bitDepth}
 use Rattle.bpg_format.specs.Syntax.{fileOf}
-use Rattle.bpg_format.specs.Rules.{isLoop, hasLoop, noLoop, Rules}
+use Rattle.bpg_format.specs.Rules.{isAnimation, hasAnimation, noAnimation, Rules}
 use Rattle.bpg_format.specs.Tests.{colorSpaceAllowed, noForbiddenBit, hevcAllowed}
-use Rattle.bpg_format.specs.Read.{readLoop}
+use Rattle.bpg_format.specs.Read.{readAnimation}
 use Rattle.bpg_format.specs.Records.{usedEntries, contentOf}
 
 -- ---- refusal 18: a range outside the source
@@ -76,15 +76,15 @@ headerZero h =
     && (not (h .«strong_intra_smoothing_enabled_flag»)
     && (not (h .«sps_extension_present_flag») && absentZero h))))))))
 
-abbrev pub sameLoop : Loop → Loop → Bool
-sameLoop p q = eqb (p .count) (q .count) && (eqb (p .periodNum) (q .periodNum) && eqb (p .periodDen) (q .periodDen))
+abbrev pub sameAnimation : AnimationControl → AnimationControl → Bool
+sameAnimation p q = eqb (p .count) (q .count) && (eqb (p .periodNum) (q .periodNum) && eqb (p .periodDen) (q .periodDen))
 
 -- no entries without the extension flag; no loop numbers without a tag 5 entry; no alpha header without alpha; in each header, what a flag
 -- leaves out is zero
 unfoldable pub consistent : Content → Bool
 consistent c =
     (c .flags .extensionPresent || isEmpty (c .extensions))
-    && ((hasLoop (c .extensions) || sameLoop (c .loop) noLoop)
+    && ((hasAnimation (c .extensions) || sameAnimation (c .control) noAnimation)
     && ((hasAlpha (c .flags) || headerZero (c .alphaHeader))
     && (absentZero (c .alphaHeader) && absentZero (c .colorHeader))))
 
@@ -96,15 +96,15 @@ atZero (ok a) = ok a
 atZero (error s o) = error s 0
 
 -- a tag 5 payload's own refusals, then 19 if the loop numbers differ
-unfoldable pub checkLoop : Loop → List ℕ → Outcome (Unit {0})
-checkLoop p l = atZero (readLoop 0 l) >>= λ x. guard (sameLoop p x) 19 0
+unfoldable pub checkAnimation : AnimationControl → List ℕ → Outcome (Unit {0})
+checkAnimation p l = atZero (readAnimation 0 l) >>= λ x. guard (sameAnimation p x) 19 0
 
-unfoldable pub checkEntries : Loop → (seen : Bool) → List Extension → Outcome (Unit {0})
+unfoldable pub checkEntries : AnimationControl → (seen : Bool) → List Extension → Outcome (Unit {0})
 checkEntries p seen [] = ok tt
 checkEntries p seen (e ∷ es) =
-    guard (not (seen && isLoop e)) 13 0 >>= λ _.
-    select (isLoop e) (checkLoop p (e .payload)) (ok tt) >>= λ _.
-    checkEntries p (seen || isLoop e) es
+    guard (not (seen && isAnimation e)) 13 0 >>= λ _.
+    select (isAnimation e) (checkAnimation p (e .payload)) (ok tt) >>= λ _.
+    checkEntries p (seen || isAnimation e) es
 
 -- a ue(v) field of 2^32 - 1 is 15
 abbrev pub coded : ℕ → Bool
@@ -133,8 +133,8 @@ checkContent c =
     guard (colorSpaceAllowed (c .flags)) 6 0 >>= λ _.
     guard (notZero (c .width)) 9 0 >>= λ _.
     guard (notZero (c .height)) 9 0 >>= λ _.
-    checkEntries (c .loop) false (c .extensions) >>= λ _.
-    guard (not (c .flags .animation) || hasLoop (c .extensions)) 14 0 >>= λ _.
+    checkEntries (c .control) false (c .extensions) >>= λ _.
+    guard (not (c .flags .animation) || hasAnimation (c .extensions)) 14 0 >>= λ _.
     select (hasAlpha (c .flags)) (checkHeader (bitDepth (c .flags)) (c .alphaHeader)) (ok tt) >>= λ _.
     checkHeader (bitDepth (c .flags)) (c .colorHeader)
 

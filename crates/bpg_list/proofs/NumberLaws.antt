@@ -17,7 +17,7 @@ use Rattle.bpg_codec.proofs.Buffer.{length-splice, stored, written-written}
 use Rattle.bpg_format.specs.declared.record.Entry.{Entry}
 use Rattle.bpg_format.specs.declared.record.Header.{Header}
 use Rattle.bpg_format.specs.declared.record.Record.{Record}
-use Rattle.bpg_list.specs.Numbers.{loopStart, alphaStart, colorStart, dataStart, recordLength, headNumbers, rangeNumbers, entryNumbers, entriesNumbers, loopNumbers, headerNumbers, headersNumbers, numbersOf, entryAt, entriesAt, beginsWith}
+use Rattle.bpg_list.specs.Numbers.{loopStart, alphaStart, colorStart, dataStart, recordLength, headNumbers, rangeNumbers, entryNumbers, entriesNumbers, animationNumbers, headerNumbers, headersNumbers, numbersOf, entryAt, listEntries, beginsWith}
 
 -- a flag as a number
 pub flag-number : (t : Bool) → boolByte t ≡ bit t
@@ -107,25 +107,25 @@ module _ (out : List ℕ) (r : Record) (d : Header) (long : recordLength ≤ len
   abbrev color : List ℕ
   color = headerNumbers (getD (r .headers) 1 d)
 
-  parts-are : ((((headNumbers r ++ entriesNumbers (r .entries)) ++ loopNumbers r) ++ alpha) ++ color) ++ rangeNumbers (r .«data») ≡ numbersOf r
+  parts-are : ((((headNumbers r ++ entriesNumbers (r .entries)) ++ animationNumbers r) ++ alpha) ++ color) ++ rangeNumbers (r .«data») ≡ numbersOf r
   unfolding numbersOf
   parts-are =
-      in-order (headNumbers r) (entriesNumbers (r .entries)) (loopNumbers r) alpha color (rangeNumbers (r .«data»))
-      ∙ ap (λ (l : List ℕ). headNumbers r ++ (entriesNumbers (r .entries) ++ (loopNumbers r ++ (l ++ rangeNumbers (r .«data»))))) (sym (two-headers (r .headers) d two))
+      in-order (headNumbers r) (entriesNumbers (r .entries)) (animationNumbers r) alpha color (rangeNumbers (r .«data»))
+      ∙ ap (λ (l : List ℕ). headNumbers r ++ (entriesNumbers (r .entries) ++ (animationNumbers r ++ (l ++ rangeNumbers (r .«data»))))) (sym (two-headers (r .headers) d two))
 
   pub record-written : (o1 o2 o3 o4 o5 o6 : List ℕ) → length alpha ≡ 25 → length color ≡ 25
-      → o1 ≡ written out 0 (headNumbers r) → o2 ≡ written o1 12 (entriesNumbers (r .entries)) → o3 ≡ written o2 loopStart (loopNumbers r)
+      → o1 ≡ written out 0 (headNumbers r) → o2 ≡ written o1 12 (entriesNumbers (r .entries)) → o3 ≡ written o2 loopStart (animationNumbers r)
       → o4 ≡ written o3 alphaStart alpha → o5 ≡ written o4 colorStart color → o6 ≡ written o5 dataStart (rangeNumbers (r .«data»))
       → (o6 ≡ written out 0 (numbersOf r)) × (length (numbersOf r) ≡ recordLength)
   record-written o1 o2 o3 o4 o5 o6 m n p1 p2 p3 p4 p5 p6 =
       let a = headNumbers r in
       let b = a ++ entriesNumbers (r .entries) in
-      let c = b ++ loopNumbers r in
+      let c = b ++ animationNumbers r in
       let e = c ++ alpha in
       let f = e ++ color in
       let ends : (length b ≡ loopStart) × (length c ≡ alphaStart) × (length e ≡ colorStart) × (length f ≡ dataStart) = simp length-append (omega arith) in
       let q2 = written-next out 0 12 a (entriesNumbers (r .entries)) o1 o2 refl (omega arith) p1 p2 in
-      let q3 = written-next out 0 loopStart b (loopNumbers r) o2 o3 (omega arith) (omega arith) q2 p3 in
+      let q3 = written-next out 0 loopStart b (animationNumbers r) o2 o3 (omega arith) (omega arith) q2 p3 in
       let q4 = written-next out 0 alphaStart c alpha o3 o4 (omega arith) (omega arith) q3 p4 in
       let q5 = written-next out 0 colorStart e color o4 o5 (omega arith) (omega arith) q4 p5 in
       let q6 = written-next out 0 dataStart f (rangeNumbers (r .«data»)) o5 o6 (omega arith) (omega arith) q5 p6 in
@@ -152,9 +152,9 @@ module _ (a l : List ℕ) (k : ℕ) where
 
 -- ---- the entries of a list
 
-pub entries-more : (l : List ℕ) (at k : ℕ) → entriesAt l at (suc k) ≡ entriesAt l at k ++ (entryAt l (at + 3 * k) ∷ [])
-unfolding entriesAt
+pub entries-more : (l : List ℕ) (at k : ℕ) → listEntries l at (suc k) ≡ listEntries l at k ++ (entryAt l (at + 3 * k) ∷ [])
+unfolding listEntries
 entries-more l at zero = ap (λ (n : ℕ). entryAt l n ∷ []) (omega arith)
 entries-more l at (suc k) =
     let n : at + 3 + 3 * k ≡ at + 3 * suc k = omega arith in
-    ap (λ (es : List Entry). entryAt l at ∷ es) (entries-more l (at + 3) k ∙ ap (λ (m : ℕ). entriesAt l (at + 3) k ++ (entryAt l m ∷ [])) n)
+    ap (λ (es : List Entry). entryAt l at ∷ es) (entries-more l (at + 3) k ∙ ap (λ (m : ℕ). listEntries l (at + 3) k ++ (entryAt l m ∷ [])) n)

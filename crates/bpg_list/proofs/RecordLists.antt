@@ -17,7 +17,7 @@ use Rattle.bpg_format.specs.declared.record.Entry.{Entry}
 use Rattle.bpg_format.specs.declared.record.Header.{Header}
 use Rattle.bpg_format.specs.declared.record.Record.{Record}
 use Rattle.bpg_format.specs.Zero.{range}
-use Rattle.bpg_list.specs.Numbers.{loopStart, alphaStart, colorStart, dataStart, recordLength, headNumbers, rangeNumbers, entryNumbers, entriesNumbers, loopNumbers, headerNumbers, headersNumbers, numbersOf, entriesAt, rangeFlagsAt, headerAt, recordOf, beginsWith, numbersFit}
+use Rattle.bpg_list.specs.Numbers.{loopStart, alphaStart, colorStart, dataStart, recordLength, headNumbers, rangeNumbers, entryNumbers, entriesNumbers, animationNumbers, headerNumbers, headersNumbers, numbersOf, listEntries, rangeFlagsAt, headerAt, listRecord, beginsWith, numbersFit}
 use Rattle.bpg_list.specs.Typing.{OfBits, TypedHeader, TypedRecord}
 use Rattle.bpg_list.proofs.NumberLaws.{entries-length, header-length}
 
@@ -39,15 +39,15 @@ module _ (l : List ℕ) (n : ℕ) where
   unfolding headerAt rangeFlagsAt
   header-from = simp (getD-drop, add-assoc, add-zero)
 
-entries-from : (l : List ℕ) (n i m : ℕ) → entriesAt l (n + i) m ≡ entriesAt (drop n l) i m
-unfolding entriesAt
+entries-from : (l : List ℕ) (n i m : ℕ) → listEntries l (n + i) m ≡ listEntries (drop n l) i m
+unfolding listEntries
 entries-from l n i zero = refl
 entries-from l n i (suc m) = let ih = entries-from l n (i + 3) m in simp (getD-drop, add-assoc, ih)
 
 -- ---- the parts of a list give the parts of the record
 
-entries-back : (es : List Entry) (rest : List ℕ) → All (λ (e : Entry). OfBits 32 (entryNumbers e)) es → entriesAt (entriesNumbers es ++ rest) 0 (length es) ≡ es
-unfolding entriesAt entriesNumbers
+entries-back : (es : List Entry) (rest : List ℕ) → All (λ (e : Entry). OfBits 32 (entryNumbers e)) es → listEntries (entriesNumbers es ++ rest) 0 (length es) ≡ es
+unfolding listEntries entriesNumbers
 entries-back [] rest a = refl
 entries-back (e ∷ es) rest a =
     let tail = entries-from (entriesNumbers (e ∷ es) ++ rest) 3 0 (length es) ∙ entries-back es rest (a .1) in
@@ -98,10 +98,10 @@ module _ (r : Record) (rest : List ℕ) (t : TypedRecord r) where
   entries-end : length (headNumbers r ++ entriesNumbers (r .entries)) ≡ loopStart
   entries-end = omega (arith, length-append (headNumbers r) (entriesNumbers (r .entries)), entries-length (r .entries), t .sixteen)
 
-  past-entries : drop loopStart all ≡ loopNumbers r ++ (headersNumbers (r .headers) ++ (rangeNumbers (r .«data») ++ rest))
+  past-entries : drop loopStart all ≡ animationNumbers r ++ (headersNumbers (r .headers) ++ (rangeNumbers (r .«data») ++ rest))
   unfolding numbersOf
   past-entries =
-      past (headNumbers r ++ entriesNumbers (r .entries)) (loopNumbers r ++ (headersNumbers (r .headers) ++ (rangeNumbers (r .«data») ++ rest))) all loopStart (simp append-assoc) entries-end
+      past (headNumbers r ++ entriesNumbers (r .entries)) (animationNumbers r ++ (headersNumbers (r .headers) ++ (rangeNumbers (r .«data») ++ rest))) all loopStart (simp append-assoc) entries-end
 
   past-loop : drop alphaStart all ≡ headersNumbers (r .headers) ++ (rangeNumbers (r .«data») ++ rest)
   past-loop = sym (drop-drop 3 loopStart all) ∙ ap (drop 3) past-entries
@@ -111,19 +111,19 @@ module _ (r : Record) (rest : List ℕ) (t : TypedRecord r) where
       sym (drop-drop 50 alphaStart all)
       ∙ past (headersNumbers (r .headers)) (rangeNumbers (r .«data») ++ rest) (drop alphaStart all) 50 past-loop (omega (arith, headers-length (r .headers) (t .headers), t .two))
 
-  entries-are : entriesAt all 12 maxEntries ≡ r .entries
+  entries-are : listEntries all 12 maxEntries ≡ r .entries
   unfolding numbersOf
   entries-are =
-      let tail = loopNumbers r ++ (headersNumbers (r .headers) ++ rangeNumbers (r .«data»)) in
+      let tail = animationNumbers r ++ (headersNumbers (r .headers) ++ rangeNumbers (r .«data»)) in
       entries-from all 12 0 maxEntries
-      ∙ ap (λ (l : List ℕ). entriesAt l 0 maxEntries) (append-assoc (entriesNumbers (r .entries)) tail rest)
-      ∙ ap (entriesAt (entriesNumbers (r .entries) ++ (tail ++ rest)) 0) (sym (t .sixteen))
+      ∙ ap (λ (l : List ℕ). listEntries l 0 maxEntries) (append-assoc (entriesNumbers (r .entries)) tail rest)
+      ∙ ap (listEntries (entriesNumbers (r .entries) ++ (tail ++ rest)) 0) (sym (t .sixteen))
       ∙ entries-back (r .entries) (tail ++ rest) (t .entries)
 
-  pub record-back : recordOf all ≡ r
-  unfolding recordOf numbersOf
+  pub record-back : listRecord all ≡ r
+  unfolding listRecord numbersOf
   record-back =
-      let loop = number-from all loopStart (loopNumbers r ++ (headersNumbers (r .headers) ++ (rangeNumbers (r .«data») ++ rest))) in
+      let loop = number-from all loopStart (animationNumbers r ++ (headersNumbers (r .headers) ++ (rangeNumbers (r .«data») ++ rest))) in
       let headers = headers-back (r .headers) all (rangeNumbers (r .«data») ++ rest) (t .two) (t .headers) past-loop in
       let range = number-from all dataStart (rangeNumbers (r .«data») ++ rest) in
       search (mod-eq-of-lt, flag, entries-are, loop 0 past-entries, loop 1 past-entries, loop 2 past-entries, headers, range 0 past-headers, range 1 past-headers)

@@ -14,7 +14,7 @@ use Rattle.bpg_codec.specs.Lawful.{All}
 use Rattle.bpg_codec.proofs.Select.{select-true}
 use Rattle.bpg_format.specs.declared.record.Entry.{Entry}
 use Rattle.bpg_format.specs.declared.record.Record.{Record}
-use Rattle.bpg_list.specs.Numbers.{alphaStart, colorStart, recordLength, entryNumbers, numbersOf, entriesAt, rangeFlagsAt, headerAt, recordOf, beginsWith, numbersFit}
+use Rattle.bpg_list.specs.Numbers.{alphaStart, colorStart, recordLength, entryNumbers, numbersOf, listEntries, rangeFlagsAt, headerAt, listRecord, beginsWith, numbersFit}
 use Rattle.bpg_list.specs.Calls.{readList}
 use Rattle.bpg_list.specs.Typing.{OfBits, TypedHeader, TypedRecord}
 use Rattle.bpg_list.specs.Theorems.{ListOf, ListTheorems}
@@ -31,8 +31,8 @@ short n = omega arith
 byte : (n : ℕ) → n % 2 ^ 8 < 2 ^ 8
 byte n = omega arith
 
-entries-typed : (l : List ℕ) (k n : ℕ) → All (λ (e : Entry). OfBits 32 (entryNumbers e)) (entriesAt l k n)
-unfolding entriesAt
+entries-typed : (l : List ℕ) (k n : ℕ) → All (λ (e : Entry). OfBits 32 (entryNumbers e)) (listEntries l k n)
+unfolding listEntries
 entries-typed l k zero = tt
 entries-typed l k (suc n) = ((word _, (word _, (word _, tt))), entries-typed l (k + 3) n)
 
@@ -47,19 +47,19 @@ header-typed l k =
       nine = refl;
     }
 
-entries-sixteen : (l : List ℕ) → length (entriesAt l 12 maxEntries) ≡ maxEntries
-unfolding entriesAt
+entries-sixteen : (l : List ℕ) → length (listEntries l 12 maxEntries) ≡ maxEntries
+unfolding listEntries
 entries-sixteen l = refl
 
-any-typed : (l : List ℕ) → TypedRecord (recordOf l)
-unfolding recordOf
+any-typed : (l : List ℕ) → TypedRecord (listRecord l)
+unfolding listRecord
 any-typed l =
     record {
       flags = (byte _, (byte _, (byte _, tt)));
       size = (word _, (word _, (word _, tt)));
       entries = entries-typed l 12 maxEntries;
       sixteen = entries-sixteen l;
-      loop = (short _, (short _, (short _, tt)));
+      control = (short _, (short _, (short _, tt)));
       headers = (header-typed l alphaStart, (header-typed l colorStart, tt));
       two = refl;
       data-range = (word _, (word _, tt));
@@ -83,8 +83,8 @@ begins-sound (x ∷ a) (y ∷ l) e =
     let r = begins-sound a l (b .1) in
     (r .0, ap₂ (λ (n : ℕ) (m : List ℕ). n ∷ m) (same x y (b .0)) (r .1))
 
-back : (r : Record) (l : List ℕ) → TypedRecord r → ListOf r l → recordOf l ≡ r
-back r l t o = ap recordOf (o .1) ∙ record-back r (o .0) t
+back : (r : Record) (l : List ℕ) → TypedRecord r → ListOf r l → listRecord l ≡ r
+back r l t o = ap listRecord (o .1) ∙ record-back r (o .0) t
 
 fits : (r : Record) (l : List ℕ) → TypedRecord r → ListOf r l → numbersFit l ≡ true
 fits r l t o = ap (λ (m : List ℕ). numbersFit m) (o .1) ∙ numbers-fit r (o .0) t
@@ -96,7 +96,7 @@ read : (r : Record) (l : List ℕ) → TypedRecord r → ListOf r l → readList
 read r l t o = select-true _ _ (rw (le-leb recordLength (length l) (long r l t o), fits r l t o)) ∙ back r l t o
 
 fitting : (l : List ℕ) → (numbersFit l ≡ true) ↔ ((r : Record) × TypedRecord r × ListOf r l)
-fitting l = (λ e. (recordOf l, any-typed l, begins-sound (numbersOf (recordOf l)) l e), λ x. fits (x .0) l (x .1) (x .2))
+fitting l = (λ e. (listRecord l, any-typed l, begins-sound (numbersOf (listRecord l)) l e), λ x. fits (x .0) l (x .1) (x .2))
 
 pub list-theorems : ListTheorems
 list-theorems = record { back = back; read = read; fitting = fitting }

@@ -10,7 +10,7 @@ use Rattle.bpg_codec.specs.Outcome.{Outcome, ok, _>>=_, guard}
 use Rattle.bpg_format.specs.declared.record.Record.{Record}
 use Rattle.bpg_format.specs.declared.answer.Reading.{Reading}
 use Rattle.bpg_format.specs.Zero.{zeroRecord}
-use Rattle.bpg_list.specs.Numbers.{recordLength, readingLength, numbersOf, readingNumbers, recordOf, beginsWith, numbersFit}
+use Rattle.bpg_list.specs.Numbers.{recordLength, readingLength, numbersOf, readingNumbers, listRecord, beginsWith, numbersFit}
 
 -- writing a reading's numbers: the file's refusals, then 20 for a list that is too short
 abbrev pub listed : (capacity : ℕ) → Reading → Outcome (List ℕ)
@@ -21,11 +21,11 @@ listed capacity r =
 
 -- reading a record from its numbers, where there are enough and each fits its field: a list that is refused gives the zero record
 abbrev pub readList : (numbers : List ℕ) → Record
-readList l = select (leb recordLength (length l) && numbersFit l) (recordOf l) zeroRecord
+readList l = select (leb recordLength (length l) && numbersFit l) (listRecord l) zeroRecord
 
 -- the same with each number cut to its field
 abbrev pub truncatedList : (numbers : List ℕ) → Record
-truncatedList l = select (leb recordLength (length l)) (recordOf l) zeroRecord
+truncatedList l = select (leb recordLength (length l)) (listRecord l) zeroRecord
 
 -- whether the numbers are those of the record: 20 for a list that is too short, 19 for a number that differs
 abbrev pub listStatus : (numbers : List ℕ) → Record → ℕ

@@ -55,8 +55,8 @@ entriesNumbers [] = []
 entriesNumbers (e ∷ es) = entryNumbers e ++ entriesNumbers es
 
 -- from loopStart
-abbrev pub loopNumbers : Record → List ℕ
-loopNumbers r = r .«loop_count» ∷ r .«frame_period_num» ∷ r .«frame_period_den» ∷ []
+abbrev pub animationNumbers : Record → List ℕ
+animationNumbers r = r .«loop_count» ∷ r .«frame_period_num» ∷ r .«frame_period_den» ∷ []
 
 -- block sizes, PCM, SPS extension, range flags
 unfoldable pub headerNumbers : Header → List ℕ
@@ -77,7 +77,7 @@ headersNumbers (h ∷ hs) = headerNumbers h ++ headersNumbers hs
 
 -- from dataStart, the data's range
 unfoldable pub numbersOf : Record → List ℕ
-numbersOf r = headNumbers r ++ (entriesNumbers (r .entries) ++ (loopNumbers r ++ (headersNumbers (r .headers) ++ rangeNumbers (r .«data»))))
+numbersOf r = headNumbers r ++ (entriesNumbers (r .entries) ++ (animationNumbers r ++ (headersNumbers (r .headers) ++ rangeNumbers (r .«data»))))
 
 -- from recordLength, the coded size
 abbrev pub readingNumbers : Reading → List ℕ
@@ -104,9 +104,9 @@ abbrev pub entryAt : List ℕ → ℕ → Entry
 entryAt l k = record { tag = u32At l k; payload = rangeAt l (k + 1) }
 
 -- n entries, the first at k
-unfoldable pub entriesAt : List ℕ → ℕ → (n : ℕ) → List Entry
-entriesAt l k zero = []
-entriesAt l k (suc n) = entryAt l k ∷ entriesAt l (k + 3) n
+unfoldable pub listEntries : List ℕ → ℕ → (n : ℕ) → List Entry
+listEntries l k zero = []
+listEntries l k (suc n) = entryAt l k ∷ listEntries l (k + 3) n
 
 unfoldable pub rangeFlagsAt : List ℕ → ℕ → List Bool
 rangeFlagsAt l k =
@@ -135,8 +135,8 @@ headerAt l k =
       «range_flags» = rangeFlagsAt l (k + 16);
     }
 
-unfoldable pub recordOf : List ℕ → Record
-recordOf l =
+unfoldable pub listRecord : List ℕ → Record
+listRecord l =
     record {
       «pixel_format» = u8At l 0;
       «alpha1_flag» = flagAt l 1;
@@ -150,7 +150,7 @@ recordOf l =
       «picture_height» = u32At l 9;
       «explicit_length» = flagAt l 10;
       «entry_count» = u32At l 11;
-      entries = entriesAt l 12 maxEntries;
+      entries = listEntries l 12 maxEntries;
       «loop_count» = u16At l loopStart;
       «frame_period_num» = u16At l (loopStart + 1);
       «frame_period_den» = u16At l (loopStart + 2);
@@ -166,4 +166,4 @@ beginsWith (x ∷ a) (y ∷ l) = eqb x y && beginsWith a l
 
 -- each number fits its field: the record that the list gives has these numbers and no others
 abbrev pub numbersFit : List ℕ → Bool
-numbersFit l = beginsWith (numbersOf (recordOf l)) l
+numbersFit l = beginsWith (numbersOf (listRecord l)) l

@@ -8,7 +8,7 @@ use Rattle.bpg_format.specs.Limits.{maxEntries}
 use Rattle.bpg_format.specs.declared.record.Entry.{Entry}
 use Rattle.bpg_format.specs.declared.record.Header.{Header}
 use Rattle.bpg_format.specs.declared.record.Record.{Record}
-use Rattle.bpg_list.specs.Numbers.{rangeNumbers, entryNumbers, loopNumbers}
+use Rattle.bpg_list.specs.Numbers.{rangeNumbers, entryNumbers, animationNumbers}
 
 -- numbers of so many bits
 abbrev pub OfBits : (n : ℕ) → List ℕ → Type 0
@@ -29,7 +29,7 @@ pub record TypedRecord (r : Record) : Type 0 where
   pub size : OfBits 32 (r .«picture_width» ∷ r .«picture_height» ∷ r .«entry_count» ∷ [])
   pub entries : All (λ (e : Entry). OfBits 32 (entryNumbers e)) (r .entries)
   pub sixteen : length (r .entries) ≡ maxEntries
-  pub loop : OfBits 16 (loopNumbers r)
+  pub control : OfBits 16 (animationNumbers r)
   pub headers : All TypedHeader (r .headers)
   pub two : length (r .headers) ≡ 2
   pub data-range : OfBits 32 (rangeNumbers (r .«data»))

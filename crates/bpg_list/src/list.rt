@@ -12,7 +12,7 @@ ghost use lib.ListN.{length as count};
 ghost use Rattle.bpg_codec.specs.Buffer.{written};
 ghost use Rattle.bpg_format.specs.Limits.{maxEntries};
 ghost use Rattle.bpg_format.specs.Write.{writtenAnswer, writtenBuffer};
-ghost use Rattle.bpg_list.specs.Numbers.{loopStart, dataStart, recordLength, headNumbers, rangeNumbers, entriesNumbers, loopNumbers, headerNumbers, numbersOf, beginsWith};
+ghost use Rattle.bpg_list.specs.Numbers.{loopStart, dataStart, recordLength, headNumbers, rangeNumbers, entriesNumbers, animationNumbers, headerNumbers, numbersOf, beginsWith};
 ghost use Rattle.bpg_list.specs.Calls.{listed, listStatus};
 
 // Where the parts of a list begin. A record ends at RECORD, and a reading, which adds the coded width and height, at READING.
@@ -134,7 +134,7 @@ fn put_entries(out: &mut [u64], record: Record)
 }
 
 fn put_loop(out: &mut [u64], record: Record)
-    ensures { λ _. ⌜ now (out .exit) ≡ written (now (out .entry)) loopStart (loopNumbers «record») ⌝ }
+    ensures { λ _. ⌜ now (out .exit) ≡ written (now (out .entry)) loopStart (animationNumbers «record») ⌝ }
 {
     let part = [
         record.loop_count as u64,

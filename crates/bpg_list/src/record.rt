@@ -17,7 +17,7 @@ ghost use mathlib.Core.Path.{_≡_};
 ghost use Prim.Native.Nat.{_+_, _≤_, _<_};
 ghost use lib.ListN.{length as count};
 ghost use Rattle.bpg_format.specs.Limits.{maxEntries};
-ghost use Rattle.bpg_list.specs.Numbers.{recordLength, flagAt, u8At, u16At, u32At, rangeAt, entryAt, entriesAt, rangeFlagsAt, headerAt, recordOf};
+ghost use Rattle.bpg_list.specs.Numbers.{recordLength, flagAt, u8At, u16At, u32At, rangeAt, entryAt, listEntries, rangeFlagsAt, headerAt, listRecord};
 ghost use Rattle.bpg_list.specs.Calls.{truncatedList, readList};
 
 const PERIOD_NUM: usize = LOOP + 1;
@@ -73,7 +73,7 @@ fn entry(numbers: &[u64], k: usize) -> Entry
 
 fn entries(numbers: &[u64]) -> [Entry; MAX_ENTRIES]
     requires { ⌜ recordLength ≤ count (now numbers) ⌝ }
-    ensures { λ r. ⌜ r ≡ entriesAt (now (numbers .entry)) 12 maxEntries ⌝ }
+    ensures { λ r. ⌜ r ≡ listEntries (now (numbers .entry)) 12 maxEntries ⌝ }
 {
     let none = zero_entry();
     let mut all = [none; MAX_ENTRIES];
@@ -130,7 +130,7 @@ fn header(numbers: &[u64], k: usize) -> Header
 
 fn from(numbers: &[u64]) -> Record
     requires { ⌜ recordLength ≤ count (now numbers) ⌝ }
-    ensures { λ r. ⌜ r ≡ recordOf (now (numbers .entry)) ⌝ }
+    ensures { λ r. ⌜ r ≡ listRecord (now (numbers .entry)) ⌝ }
 {
     let entries = entries(numbers);
     let alpha = header(numbers, ALPHA);

@@ -15,15 +15,15 @@ use Rattle.bpg_format.specs.Limits.{maxFile}
 use Rattle.bpg_format.specs.declared.record.Header.{Header}
 use Rattle.bpg_format.specs.Zero.{zeroHeader}
 use Rattle.bpg_format.specs.Content.{Flags, Content, hasAlpha, bitDepth}
-use Rattle.bpg_format.specs.Rules.{hasLoop}
-use Rattle.bpg_format.specs.Tests.{countsBody, noForbiddenBit, hevcAllowed}
+use Rattle.bpg_format.specs.Rules.{hasAnimation}
+use Rattle.bpg_format.specs.Tests.{countsToEnd, noForbiddenBit, hevcAllowed}
 use Rattle.bpg_format.specs.FileCodec.{headerFields, header, alphaHeader}
 use Rattle.bpg_format.specs.Read.{Head, readBlock, readHeader, readAlphaHeader, readBody}
 use Rattle.bpg_format.proofs.Chain.{header-chain, alpha-chain}
 use Rattle.bpg_header.specs.Headers.{headerIn}
 use Rattle.bpg_header.specs.BothHeaders.{alphaIn, headersIn}
 use Rattle.bpg_header.proofs.HeaderLaws.{in-file}
-use Rattle.bpg_reader.specs.Bodies.{bodyStart, bodyContent}
+use Rattle.bpg_reader.specs.Bodies.{headersStart, bodyContent}
 
 -- ---- what is left after a header
 
@@ -95,33 +95,33 @@ module _ (file : List ℕ) (short : length file ≤ maxFile) (h : Head) where
   abbrev rest : List ℕ
   rest = drop (h .end) file
 
-  pub body-rest : drop (h .extensionLength) rest ≡ drop (bodyStart h) file
+  pub body-rest : drop (h .extensionLength) rest ≡ drop (headersStart h) file
   body-rest = drop-drop (h .extensionLength) (h .end) file
 
   pub body-chain : readBody h rest
       ≡ (readBlock h rest >>= λ es.
-      guard (not (h .flags .animation) || hasLoop es) 14 5 >>= λ _.
-      guard (countsBody (h .dataLength) (length file - bodyStart h)) 10 (h .dataLengthAt) >>= λ _.
-      headersIn file (hasAlpha (h .flags)) (bitDepth (h .flags)) (bodyStart h) >>= λ x.
+      guard (not (h .flags .animation) || hasAnimation es) 14 5 >>= λ _.
+      guard (countsToEnd (h .dataLength) (length file - headersStart h)) 10 (h .dataLengthAt) >>= λ _.
+      headersIn file (hasAlpha (h .flags)) (bitDepth (h .flags)) (headersStart h) >>= λ x.
       ok (bodyContent h es (x .0) (x .1) (drop (x .2) file)))
   unfolding readBody
   body-chain =
-      rw (body-rest, length-drop (bodyStart h) file)
+      rw (body-rest, length-drop (headersStart h) file)
       (bind-cong (readBlock h rest)
       (λ es.
-      guard (not (h .flags .animation) || hasLoop es) 14 5 >>= λ _.
-      guard (countsBody (h .dataLength) (length file - bodyStart h)) 10 (h .dataLengthAt) >>= λ _.
-      readAlphaHeader (h .flags) (bodyStart h) (drop (bodyStart h) file) >>= λ a.
+      guard (not (h .flags .animation) || hasAnimation es) 14 5 >>= λ _.
+      guard (countsToEnd (h .dataLength) (length file - headersStart h)) 10 (h .dataLengthAt) >>= λ _.
+      readAlphaHeader (h .flags) (headersStart h) (drop (headersStart h) file) >>= λ a.
       readHeader (bitDepth (h .flags)) (a .next) (a .rest) >>= λ c.
       ok (bodyContent h es (a .value) (c .value) (c .rest)))
       (λ es.
-      guard (not (h .flags .animation) || hasLoop es) 14 5 >>= λ _.
-      guard (countsBody (h .dataLength) (length file - bodyStart h)) 10 (h .dataLengthAt) >>= λ _.
-      headersIn file (hasAlpha (h .flags)) (bitDepth (h .flags)) (bodyStart h) >>= λ x.
+      guard (not (h .flags .animation) || hasAnimation es) 14 5 >>= λ _.
+      guard (countsToEnd (h .dataLength) (length file - headersStart h)) 10 (h .dataLengthAt) >>= λ _.
+      headersIn file (hasAlpha (h .flags)) (bitDepth (h .flags)) (headersStart h) >>= λ x.
       ok (bodyContent h es (x .0) (x .1) (drop (x .2) file)))
       (λ es _.
       ap
       (λ (m : Outcome Content).
-      guard (not (h .flags .animation) || hasLoop es) 14 5 >>= λ _.
-      guard (countsBody (h .dataLength) (length file - bodyStart h)) 10 (h .dataLengthAt) >>= λ _. m)
-      (headers-then file short (h .flags) (bodyStart h) (bodyContent h es))))
+      guard (not (h .flags .animation) || hasAnimation es) 14 5 >>= λ _.
+      guard (countsToEnd (h .dataLength) (length file - headersStart h)) 10 (h .dataLengthAt) >>= λ _. m)
+      (headers-then file short (h .flags) (headersStart h) (bodyContent h es))))

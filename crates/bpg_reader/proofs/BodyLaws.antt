@@ -15,8 +15,8 @@ use Rattle.bpg_format.specs.Limits.{maxFile}
 use Rattle.bpg_format.specs.declared.record.Header.{Header}
 use Rattle.bpg_format.specs.Zero.{refusedReading}
 use Rattle.bpg_format.specs.Content.{Extension, hasAlpha, bitDepth}
-use Rattle.bpg_format.specs.Rules.{hasLoop}
-use Rattle.bpg_format.specs.Tests.{countsBody}
+use Rattle.bpg_format.specs.Rules.{hasAnimation}
+use Rattle.bpg_format.specs.Tests.{countsToEnd}
 use Rattle.bpg_format.specs.Read.{Head, readHead, readBlock, readBody, readContent, ReadingStatus}
 use Rattle.bpg_format.specs.Records.{recordOf, answerOf}
 use Rattle.bpg_format.proofs.ReadingRefusals.{Numbered, content-refuses}
@@ -26,7 +26,7 @@ use Rattle.bpg_entries.specs.declared.block.Block.{Block}
 use Rattle.bpg_entries.specs.Blocks.{blockAnswer}
 use Rattle.bpg_header.specs.declared.headers.HeadersReading.{HeadersReading}
 use Rattle.bpg_header.specs.BothHeaders.{headersAnswer, headersIn}
-use Rattle.bpg_reader.specs.Bodies.{headFields, bodyStart, bodyContent}
+use Rattle.bpg_reader.specs.Bodies.{headFields, headersStart, bodyContent}
 use Rattle.bpg_reader.specs.Assembled.{assembledReading}
 use Rattle.bpg_reader.proofs.BodyChain.{header-inside, alpha-inside, both-headers, body-chain}
 use Rattle.bpg_reader.proofs.BodyRecord.{block-fits, content-rules, block-starts, data-starts}
@@ -58,28 +58,28 @@ module _ (file : List ℕ) (short : length file ≤ maxFile) (head : HeadReading
           (λ s o w k. subst ReadingStatus k (refuses s o (body-chain file short h ∙ rw w)))
           (λ es w. use-entries es w (block ∙ ap (blockAnswer (h .end)) w))
 
-      pub block-inside : bodyStart h ≤ length file
+      pub block-inside : headersStart h ≤ length file
       block-inside =
           with-entries λ es w _. omega (arith, block-fits h after es w, head-facts file h known .end-inside, length-drop (h .end) file)
 
       pub no-control : (not (h .flags .animation) || b .animated) ≡ false → refusedReading 14 5 ≡ answerOf (readBody h after)
       no-control a =
           with-entries λ es w is.
-          let c : (not (h .flags .animation) || hasLoop es) ≡ false = ap (λ (x : Block). not (h .flags .animation) || x .animated) (sym is) ∙ a in
+          let c : (not (h .flags .animation) || hasAnimation es) ≡ false = ap (λ (x : Block). not (h .flags .animation) || x .animated) (sym is) ∙ a in
           rw (body-chain file short h, w, c)
 
       module _ (control : (not (h .flags .animation) || b .animated) ≡ true) where
-        controlled : (es : List Extension) → b ≡ blockAnswer (h .end) (ok es) → (not (h .flags .animation) || hasLoop es) ≡ true
+        controlled : (es : List Extension) → b ≡ blockAnswer (h .end) (ok es) → (not (h .flags .animation) || hasAnimation es) ≡ true
         controlled es is = ap (λ (x : Block). not (h .flags .animation) || x .animated) (sym is) ∙ control
 
-        pub length-misses : countsBody (h .dataLength) (length file - bodyStart h) ≡ false
+        pub length-misses : countsToEnd (h .dataLength) (length file - headersStart h) ≡ false
             → refusedReading 10 (h .dataLengthAt) ≡ answerOf (readBody h after)
         length-misses a = with-entries λ es w is. rw (body-chain file short h, w, controlled es is, a)
 
-        module _ (counts : countsBody (h .dataLength) (length file - bodyStart h) ≡ true) (x : HeadersReading)
-            (headers : x ≡ headersAnswer (headersIn file (hasAlpha (h .flags)) (bitDepth (h .flags)) (bodyStart h))) where
+        module _ (counts : countsToEnd (h .dataLength) (length file - headersStart h) ≡ true) (x : HeadersReading)
+            (headers : x ≡ headersAnswer (headersIn file (hasAlpha (h .flags)) (bitDepth (h .flags)) (headersStart h))) where
           abbrev found : Outcome (Header × Header × ℕ)
-          found = headersIn file (hasAlpha (h .flags)) (bitDepth (h .flags)) (bodyStart h)
+          found = headersIn file (hasAlpha (h .flags)) (bitDepth (h .flags)) (headersStart h)
 
           pub headers-refused : x .status ≢ 0 → refusedReading (x .status) (x .offset .0) ≡ answerOf (readBody h after)
           headers-refused n =
@@ -101,14 +101,14 @@ module _ (file : List ℕ) (short : length file ≤ maxFile) (head : HeadReading
             pub next-inside : x .next .0 ≤ length file
             next-inside =
                 with-parts λ es hs w is v xs whole.
-                both-headers file short (h .flags) (bodyStart h) hs v λ q e1 e2.
-                let inside = alpha-inside file (bodyStart h) (decoded (hs .0) q (drop q file)) (h .flags) block-inside e1 in
+                both-headers file short (h .flags) (headersStart h) hs v λ q e1 e2.
+                let inside = alpha-inside file (headersStart h) (decoded (hs .0) q (drop q file)) (h .flags) block-inside e1 in
                 omega (arith, header-inside file q (decoded (hs .1) (hs .2) (drop (hs .2) file)) (bitDepth (h .flags)) inside e2, ap (λ (r : HeadersReading). r .next .0) xs)
 
             pub min-cb-small : x .color .«log2_min_luma_coding_block_size_minus3» ≤ 3
             min-cb-small =
                 with-parts λ es hs w is v xs whole.
-                both-headers file short (h .flags) (bodyStart h) hs v λ q e1 e2.
+                both-headers file short (h .flags) (headersStart h) hs v λ q e1 e2.
                 let r = content-rules file bytes h es (hs .0) (hs .1) (hs .2) w q e1 e2 (content-is ∙ whole) in
                 omega (arith, r .color-header .hevc .ctb-most, ap (λ (r : HeadersReading). r .color .«log2_min_luma_coding_block_size_minus3») xs)
 
@@ -116,7 +116,7 @@ module _ (file : List ℕ) (short : length file ≤ maxFile) (head : HeadReading
             unfolding recordOf
             body-read =
                 with-parts λ es hs w is v xs whole.
-                both-headers file short (h .flags) (bodyStart h) hs v λ q e1 e2.
+                both-headers file short (h .flags) (headersStart h) hs v λ q e1 e2.
                 let inside : hs .2 ≤ length file = omega (arith, next-inside, ap (λ (r : HeadersReading). r .next .0) xs) in
                 let blocks = block-starts file bytes h es (hs .0) (hs .1) (hs .2) w q e1 e2 (content-is ∙ whole) (head-facts file h known .end-inside) in
                 let starts = data-starts file bytes h es (hs .0) (hs .1) (hs .2) w q e1 e2 (content-is ∙ whole) inside in

@@ -15,7 +15,7 @@ use Rattle.bpg_codec.proofs.Tokens.{all-take, all-drop}
 use Rattle.bpg_format.specs.Limits.{maxEntries}
 use Rattle.bpg_format.specs.declared.record.Header.{Header}
 use Rattle.bpg_format.specs.Content.{Extension, Content, bitDepth}
-use Rattle.bpg_format.specs.Syntax.{blockBytes, bodyBytes}
+use Rattle.bpg_format.specs.Syntax.{blockBytes, headersAndData}
 use Rattle.bpg_format.specs.Rules.{Rules}
 use Rattle.bpg_format.specs.FileCodec.{extensions, body}
 use Rattle.bpg_format.specs.Read.{Head, readEntries, readBlock, readHeader, readAlphaHeader, readContent}
@@ -25,8 +25,8 @@ use Rattle.bpg_format.proofs.FileLaws.{extensions-lawful, body-lawful}
 use Rattle.bpg_format.proofs.SyntaxLaws.{each-encode, body-encode}
 use Rattle.bpg_format.proofs.RecordLaws.{beforeEntries, file-entries, before-length}
 use Rattle.bpg_format.proofs.RangeLaws.{data-end}
-use Rattle.bpg_format.proofs.Reading.{read-is}
-use Rattle.bpg_reader.specs.Bodies.{bodyStart, bodyContent}
+use Rattle.bpg_format.proofs.ReadingLaws.{read-is}
+use Rattle.bpg_reader.specs.Bodies.{headersStart, bodyContent}
 
 -- ---- the block
 
@@ -55,7 +55,7 @@ module _ (h : Head) (l : List ℕ) (es : List Extension) (e : readBlock h l ≡ 
 
 module _ (file : List ℕ) (bytes : All Byte file) (h : Head) (es : List Extension) (a c : Header) (n : ℕ)
     (entries : readBlock h (drop (h .end) file) ≡ ok es)
-    (q : ℕ) (alpha : readAlphaHeader (h .flags) (bodyStart h) (drop (bodyStart h) file) ≡ ok (decoded a q (drop q file)))
+    (q : ℕ) (alpha : readAlphaHeader (h .flags) (headersStart h) (drop (headersStart h) file) ≡ ok (decoded a q (drop q file)))
     (color : readHeader (bitDepth (h .flags)) q (drop q file) ≡ ok (decoded c n (drop n file)))
     (whole : readContent file ≡ ok (bodyContent h es a c (drop n file))) where
   abbrev content : Content
@@ -64,22 +64,22 @@ module _ (file : List ℕ) (bytes : All Byte file) (h : Head) (es : List Extensi
   pub content-rules : Rules content
   content-rules = read-is file bytes content whole .0
 
-  body-decode : body (h .flags) .decode 0 (bodyStart h) (drop (bodyStart h) file) ≡ ok (a, (c, drop n file))
+  body-decode : body (h .flags) .decode 0 (headersStart h) (drop (headersStart h) file) ≡ ok (a, (c, drop n file))
   unfolding body thenRest rest
-  body-decode = rw (alpha-chain (h .flags) 0 (bodyStart h) (drop (bodyStart h) file) ∙ alpha, header-chain (bitDepth (h .flags)) 0 q (drop q file) ∙ color)
+  body-decode = rw (alpha-chain (h .flags) 0 (headersStart h) (drop (headersStart h) file) ∙ alpha, header-chain (bitDepth (h .flags)) 0 q (drop q file) ∙ color)
 
-  body-size : length (bodyBytes content) ≡ length file - bodyStart h
+  body-size : length (headersAndData content) ≡ length file - headersStart h
   body-size =
-      let is = body-lawful (h .flags) .encodes 0 (bodyStart h) (drop (bodyStart h) file) (all-drop Byte (bodyStart h) file bytes) (a, (c, drop n file)) body-decode .1 in
-      sym (ap length (is ∙ body-encode content)) ∙ length-drop (bodyStart h) file
+      let is = body-lawful (h .flags) .encodes 0 (headersStart h) (drop (headersStart h) file) (all-drop Byte (headersStart h) file bytes) (a, (c, drop n file)) body-decode .1 in
+      sym (ap length (is ∙ body-encode content)) ∙ length-drop (headersStart h) file
 
   pub block-starts : h .end ≤ length file → blockStart content ≡ h .end
   block-starts inside =
-      let size : length file ≡ blockStart content + (length (blockBytes es) + length (bodyBytes content)) =
+      let size : length file ≡ blockStart content + (length (blockBytes es) + length (headersAndData content)) =
       ap length (read-is file bytes content whole .1 ∙ file-entries content (content-rules .absent-block))
-      ∙ length-append (beforeEntries content) (blockBytes es ++ bodyBytes content)
-      ∙ ap (λ (k : ℕ). k + length (blockBytes es ++ bodyBytes content)) (before-length content)
-      ∙ ap (λ (k : ℕ). blockStart content + k) (length-append (blockBytes es) (bodyBytes content))
+      ∙ length-append (beforeEntries content) (blockBytes es ++ headersAndData content)
+      ∙ ap (λ (k : ℕ). k + length (blockBytes es ++ headersAndData content)) (before-length content)
+      ∙ ap (λ (k : ℕ). blockStart content + k) (length-append (blockBytes es) (headersAndData content))
       in
       let block = block-size h (drop (h .end) file) es entries (all-drop Byte (h .end) file bytes) in
       omega (arith, size, block, body-size, block-fits h (drop (h .end) file) es entries, length-drop (h .end) file)

@@ -15,17 +15,17 @@ use Rattle.bpg_format.specs.Limits.{maxFile}
 use Rattle.bpg_format.specs.declared.answer.Reading.{Reading}
 use Rattle.bpg_format.specs.Content.{Content, hasAlpha, bitDepth}
 use Rattle.bpg_format.specs.Syntax.{blockBytes}
-use Rattle.bpg_format.specs.Rules.{hasLoop}
-use Rattle.bpg_format.specs.Tests.{countsBody}
+use Rattle.bpg_format.specs.Rules.{hasAnimation}
+use Rattle.bpg_format.specs.Tests.{countsToEnd}
 use Rattle.bpg_format.specs.Read.{Head, readHead, readBlock, readBody, readContent, ReadingStatus}
 use Rattle.bpg_format.specs.Records.{blockStart, answerOf, readFile}
-use Rattle.bpg_format.proofs.Reading.{read-is}
+use Rattle.bpg_format.proofs.ReadingLaws.{read-is}
 use Rattle.bpg_format.proofs.ReadingRefusals.{content-refuses}
 use Rattle.bpg_head.specs.declared.head.Head.{Head as HeadReading}
 use Rattle.bpg_head.specs.Heads.{headAnswer}
 use Rattle.bpg_head.proofs.HeadLaws.{head-facts}
 use Rattle.bpg_header.specs.BothHeaders.{headersIn}
-use Rattle.bpg_reader.specs.Bodies.{bodyStart, bodyContent}
+use Rattle.bpg_reader.specs.Bodies.{headersStart, bodyContent}
 use Rattle.bpg_reader.specs.Bounds.{bounds, blockBounds}
 use Rattle.bpg_reader.proofs.FileLaws.{head-content}
 use Rattle.bpg_reader.proofs.BodyChain.{both-headers, body-chain}
@@ -49,10 +49,10 @@ module _ (file : List ℕ) (bytes : All Byte file) (c : Content) (is : readConte
     block-is =
         let body : readContent file ≡ readBody h after = head-content file short ∙ rw head in
         unbind (readBlock h after) _ (sym (body-chain file short h) ∙ sym body ∙ is) λ es e1 k1.
-        unguard (not (h .flags .animation) || hasLoop es) 14 5 _ k1 λ _ k2.
-        unguard (countsBody (h .dataLength) (length file - bodyStart h)) 10 (h .dataLengthAt) _ k2 λ _ k3.
-        unbind (headersIn file (hasAlpha (h .flags)) (bitDepth (h .flags)) (bodyStart h)) _ k3 λ x e2 k4.
-        both-headers file short (h .flags) (bodyStart h) x e2 λ q alpha color.
+        unguard (not (h .flags .animation) || hasAnimation es) 14 5 _ k1 λ _ k2.
+        unguard (countsToEnd (h .dataLength) (length file - headersStart h)) 10 (h .dataLengthAt) _ k2 λ _ k3.
+        unbind (headersIn file (hasAlpha (h .flags)) (bitDepth (h .flags)) (headersStart h)) _ k3 λ x e2 k4.
+        both-headers file short (h .flags) (headersStart h) x e2 λ q alpha color.
         let whole : bodyContent h es (x .0) (x .1) (drop (x .2) file) ≡ c = ok-injective k4 in
         let inside = head-facts file h head .end-inside in
         let starts = block-starts file bytes h es (x .0) (x .1) (x .2) e1 q alpha color (is ∙ ap ok (sym whole)) inside in

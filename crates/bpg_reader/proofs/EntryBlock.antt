@@ -8,9 +8,9 @@ use lib.Seq.{length-take-le}
 use borrow.Author.Tests.{le-leb, lt-leb}
 use Rattle.bpg_codec.proofs.Lists.{take-drop}
 use Rattle.bpg_format.specs.Limits.{maxFile}
-use Rattle.bpg_format.specs.Read.{Head, loopOf, readEntries, readBlock}
+use Rattle.bpg_format.specs.Read.{Head, animationOf, readEntries, readBlock}
 use Rattle.bpg_entries.specs.Blocks.{refusedBlock, blockAnswer, entriesIn}
-use Rattle.bpg_reader.specs.Bodies.{bodyStart}
+use Rattle.bpg_reader.specs.Bodies.{headersStart}
 
 module _ (file : List ℕ) (short : length file ≤ maxFile) (h : Head) (inside : h .end ≤ length file) where
   pub block-too-large : length file - h .end < h .extensionLength
@@ -19,18 +19,18 @@ module _ (file : List ℕ) (short : length file ≤ maxFile) (h : Head) (inside 
   block-too-large n = rw (lt-leb (h .extensionLength) (length (drop (h .end) file)) (omega (arith, length-drop (h .end) file)))
 
   pub block-empty : h .extensionLength ≡ 0 → refusedBlock 0 0 ≡ blockAnswer (h .end) (readBlock h (drop (h .end) file))
-  unfolding readBlock readEntries loopOf
+  unfolding readBlock readEntries animationOf
   block-empty e = rw (e, le-leb 0 (length (drop (h .end) file)) (omega arith))
 
   pub block-region : h .extensionLength ≤ length file - h .end
-      → blockAnswer (h .end) (entriesIn (take (bodyStart h - 0) file) (h .end)) ≡ blockAnswer (h .end) (readBlock h (drop (h .end) file))
+      → blockAnswer (h .end) (entriesIn (take (headersStart h - 0) file) (h .end)) ≡ blockAnswer (h .end) (readBlock h (drop (h .end) file))
   unfolding entriesIn readBlock
   block-region n =
-      let whole : bodyStart h - 0 ≡ bodyStart h = omega arith in
-      let ends : length (take (bodyStart h) file) ≡ bodyStart h = length-take-le (bodyStart h) file (omega arith) in
+      let whole : headersStart h - 0 ≡ headersStart h = omega arith in
+      let ends : length (take (headersStart h) file) ≡ headersStart h = length-take-le (headersStart h) file (omega arith) in
       rw (
         whole,
-        le-leb (length (take (bodyStart h) file)) maxFile (omega arith),
+        le-leb (length (take (headersStart h) file)) maxFile (omega arith),
         le-leb (h .extensionLength) (length (drop (h .end) file)) (omega (arith, length-drop (h .end) file)),
         take-drop (h .extensionLength) (h .end) file,
       )

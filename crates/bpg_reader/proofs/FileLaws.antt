@@ -15,7 +15,7 @@ use Rattle.bpg_format.specs.Zero.{refusedReading}
 use Rattle.bpg_format.specs.Rules.{Accepted}
 use Rattle.bpg_format.specs.Read.{readHead, readBody, readContent, ReadingStatus}
 use Rattle.bpg_format.specs.Records.{answerOf, readFile}
-use Rattle.bpg_format.proofs.Reading.{accepted-status, status-accepted}
+use Rattle.bpg_format.proofs.ReadingLaws.{accepted-status, status-accepted}
 use Rattle.bpg_format.proofs.ReadingRefusals.{content-refuses}
 use Rattle.bpg_head.specs.declared.head.Head.{Head}
 use Rattle.bpg_head.specs.Heads.{headAnswer}

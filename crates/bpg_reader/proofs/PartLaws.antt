@@ -19,7 +19,7 @@ use Rattle.bpg_format.specs.Content.{Content}
 use Rattle.bpg_format.specs.Read.{readContent}
 use Rattle.bpg_format.specs.Records.{recordOf, bytesIn, usedEntries, answerOf, readFile}
 use Rattle.bpg_format.specs.Parts.{entryOf, payloadOf, dataOf, rangesOf, rangeEnd}
-use Rattle.bpg_format.proofs.Reading.{read-is}
+use Rattle.bpg_format.proofs.ReadingLaws.{read-is}
 use Rattle.bpg_format.proofs.RangeLaws.{ranges-in-order, data-last}
 use Rattle.bpg_reader.specs.declared.parts.EntryAt.{EntryAt}
 use Rattle.bpg_reader.specs.Entries.{entryAnswer}

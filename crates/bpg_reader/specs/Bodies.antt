@@ -4,7 +4,7 @@ use Prim.Native.Nat.{ℕ, _+_}
 use Rattle.bpg_numbers.specs.Ue7.{notZero}
 use Rattle.bpg_format.specs.declared.record.Header.{Header}
 use Rattle.bpg_format.specs.Content.{Extension, Content}
-use Rattle.bpg_format.specs.Read.{Head, loopOf}
+use Rattle.bpg_format.specs.Read.{Head, animationOf}
 use Rattle.bpg_head.specs.declared.head.Head.{Head as HeadReading}
 use Rattle.bpg_head.specs.FlagBytes.{flagFields}
 
@@ -23,8 +23,8 @@ headFields h =
     }
 
 -- where the headers begin
-abbrev pub bodyStart : Head → ℕ
-bodyStart h = h .end + h .extensionLength
+abbrev pub headersStart : Head → ℕ
+headersStart h = h .end + h .extensionLength
 
 abbrev pub bodyContent : Head → List Extension → (alpha color : Header) (bytes : List ℕ) → Content
 bodyContent h es alpha color bytes =
@@ -34,7 +34,7 @@ bodyContent h es alpha color bytes =
       height = h .height;
       explicitLength = notZero (h .dataLength);
       extensions = es;
-      loop = loopOf es;
+      control = animationOf es;
       alphaHeader = alpha;
       colorHeader = color;
       hevcData = bytes;

@@ -14,7 +14,7 @@ ghost use Prim.Native.Nat.{_≤_};
 ghost use lib.ListN.{length as count, drop};
 ghost use Rattle.bpg_codec.specs.Outcome.{ok};
 ghost use Rattle.bpg_format.specs.Limits.{maxFile};
-ghost use Rattle.bpg_format.specs.Tests.{countsBody};
+ghost use Rattle.bpg_format.specs.Tests.{countsToEnd};
 ghost use Rattle.bpg_format.specs.Read.{readHead, readBlock, readBody};
 ghost use Rattle.bpg_format.specs.Records.{answerOf};
 ghost use Rattle.bpg_entries.specs.Blocks.{blockAnswer};
@@ -46,7 +46,7 @@ fn control_fits(animation_flag: bool, animated: bool) -> bool
 
 // Refusal 10: a data length that is not 0 counts the headers and the data.
 fn reaches_end(data_length: u32, size: usize) -> bool
-    ensures { λ r. ⌜ r ≡ countsBody «data_length» size ⌝ }
+    ensures { λ r. ⌜ r ≡ countsToEnd «data_length» size ⌝ }
 {
     (data_length == 0) | (data_length as usize == size)
 }

@@ -17,7 +17,7 @@ use Rattle.bpg_format.specs.declared.record.Record.{Record}
 use Rattle.bpg_format.specs.Zero.{zeroHeader}
 use Rattle.bpg_format.specs.Content.{isEmpty}
 use Rattle.bpg_format.specs.Tests.{colorSpaceAllowed, noForbiddenBit, hevcAllowed}
-use Rattle.bpg_format.specs.Rules.{HevcRules, hasLoop}
+use Rattle.bpg_format.specs.Rules.{HevcRules, hasAnimation}
 use Rattle.bpg_format.specs.Records.{usedEntries, extensionOf, contentOf}
 use Rattle.bpg_format.specs.Write.{entriesInSource, inSource, rangesInSource, unusedZero, consistent, fieldsCoded, checkHeader, checkEntries, checkContent, checkRecord}
 use Rattle.bpg_format.proofs.HeaderRuleLaws.{hevc-sound}
@@ -61,8 +61,8 @@ module _ (r : Record) (source : List ℕ) where
       unguard (colorSpaceAllowed (c .flags)) 6 0 _ e2 λ s e3.
       unguard (notZero (r .«picture_width»)) 9 0 _ e3 λ _ e4.
       unguard (notZero (r .«picture_height»)) 9 0 _ e4 λ _ e5.
-      unbind (checkEntries (c .loop) false (c .extensions)) _ e5 λ _ _ e6.
-      unguard (not (r .«animation_flag») || hasLoop (c .extensions)) 14 0 _ e6 λ _ e7.
+      unbind (checkEntries (c .control) false (c .extensions)) _ e5 λ _ _ e6.
+      unguard (not (r .«animation_flag») || hasAnimation (c .extensions)) 14 0 _ e6 λ _ e7.
       unbind (select (r .«alpha1_flag» || r .«alpha2_flag») (checkHeader (r .«bit_depth_minus_8» + 8) (getD (r .headers) 0 zeroHeader)) (ok tt)) _ e7 λ _ e8 e9.
       record {
         format = leb→le _ 5 a;

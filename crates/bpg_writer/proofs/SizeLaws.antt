@@ -18,7 +18,7 @@ use Rattle.bpg_format.specs.declared.record.Header.{Header}
 use Rattle.bpg_format.specs.declared.record.Record.{Record}
 use Rattle.bpg_format.specs.Zero.{zeroHeader}
 use Rattle.bpg_format.specs.Rules.{HevcRules}
-use Rattle.bpg_format.specs.Syntax.{blockBytes, extensionBytes, extensionPart, headerBits, headerBytes, bodyBytes, dataLength, fileOf}
+use Rattle.bpg_format.specs.Syntax.{blockBytes, extensionBytes, extensionPart, headerBits, headerBytes, headersAndData, dataLength, fileOf}
 use Rattle.bpg_format.specs.Records.{bytesIn, extensionOf, usedEntries, contentOf}
 use Rattle.bpg_writer.specs.Layouts.{entriesSize, extensionSize, headerSize, bodySize, layoutOf}
 use Rattle.bpg_writer.specs.Parts.{Encoded, RangeInside, headPart, entriesPart, blockPart, headerPart, bodyPart, filePart}
@@ -100,13 +100,13 @@ module _ (r : Record) (source : List ℕ) (j : Judged r source) (a c : BitBuffer
   abbrev colorBytes : List ℕ
   colorBytes = headerBytes (getD (r .headers) 1 zeroHeader)
 
-  body-part : bodyPart alpha a c source (r .«data») ≡ bodyBytes (contentOf r source)
-  unfolding bodyBytes contentOf select
+  body-part : bodyPart alpha a c source (r .«data») ≡ headersAndData (contentOf r source)
+  unfolding headersAndData contentOf select
   body-part =
       ap₂ (λ (x y : List ℕ). x ++ (y ++ bytesIn source (r .«data»))) (header-part depth alpha (getD (r .headers) 0 zeroHeader) a (j .alpha-rules) ea) (header-part depth true (getD (r .headers) 1 zeroHeader) c (λ _. j .color-rules) ec)
 
-  pub body-measured : bodySize r (a .len .0) (c .len .0) ≡ length (bodyBytes (contentOf r source))
-  unfolding bodyBytes contentOf select
+  pub body-measured : bodySize r (a .len .0) (c .len .0) ≡ length (headersAndData (contentOf r source))
+  unfolding headersAndData contentOf select
   body-measured =
       let d = bytesIn source (r .«data») in
       omega (

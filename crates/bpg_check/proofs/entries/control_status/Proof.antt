@@ -7,7 +7,7 @@ use Prim.Native.Nat.{ℕ, _+_, _-_}
 use native.Mathlib.Omega.{arith}
 use lib.ListN.{take, drop}
 use Rattle.bpg_format.specs.declared.record.Range.{Range}
-use Rattle.bpg_format.specs.Read.{readLoop}
+use Rattle.bpg_format.specs.Read.{readAnimation}
 use Rattle.bpg_format.specs.Records.{bytesIn}
 use Rattle.bpg_entries.specs.Animations.{animationAnswer}
 use borrow.Author.Needs.{needs}
@@ -22,10 +22,10 @@ module _ (c : tie.After-read) where
   abbrev payload : Range
   payload = c .before .before .before .before .before .args .payload
 
-  answer : c .read .result ≡ animationAnswer (readLoop 0 (bytesIn source payload))
+  answer : c .read .result ≡ animationAnswer (readAnimation 0 (bytesIn source payload))
   answer =
       let e : payload .start + payload .length - payload .start ≡ payload .length = omega arith in
-      c .read .ensures ∙ ap (λ (n : ℕ). animationAnswer (readLoop 0 (take n (drop (payload .start) source)))) e
+      c .read .ensures ∙ ap (λ (n : ℕ). animationAnswer (readAnimation 0 (take n (drop (payload .start) source)))) e
 
 returns : tie.Need-returns
 returns c = let r = c .before .before in payload-refused _ _ (r .read .result) (answer r) (c .if1 .taken)

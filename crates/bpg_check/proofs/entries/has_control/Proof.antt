@@ -5,7 +5,7 @@ use Prim.Native.Nat.{ℕ, _-_, _≤_}
 use native.Mathlib.Omega.{arith}
 use lib.ListN.{length, take, drop}
 use Rattle.bpg_format.specs.Limits.{maxEntries}
-use Rattle.bpg_format.specs.Rules.{hasLoop}
+use Rattle.bpg_format.specs.Rules.{hasAnimation}
 use Rattle.bpg_format.specs.Records.{extensionOf}
 use Rattle.bpg_format.proofs.Typed.{entries-count}
 use Rattle.bpg_check.proofs.EntryLaws.{control-found, control-further, no-control}
@@ -15,7 +15,7 @@ use Rattle.bpg_check.proofs.entries.has_control.Tie as tie
 
 abbrev Inv-loop : tie.InvT-loop
 Inv-loop entries count k₀ k =
-    (source : List ℕ) → hasLoop (map (extensionOf source) (drop k (take count entries))) ≡ hasLoop (map (extensionOf source) (take count entries))
+    (source : List ℕ) → hasAnimation (map (extensionOf source) (drop k (take count entries))) ≡ hasAnimation (map (extensionOf source) (take count entries))
 
 abbrev μ-loop : tie.MeasureT-loop
 μ-loop entries count k₀ k = count - k

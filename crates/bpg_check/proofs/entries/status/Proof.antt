@@ -6,7 +6,7 @@ use Prim.Native.Nat.{_-_, _≤_}
 use native.Mathlib.Omega.{arith}
 use lib.ListN.{length, take, drop}
 use Rattle.bpg_format.specs.Limits.{maxEntries}
-use Rattle.bpg_format.specs.Records.{extensionOf, recordLoop}
+use Rattle.bpg_format.specs.Records.{extensionOf, recordAnimation}
 use Rattle.bpg_format.specs.Write.{checkEntries}
 use Rattle.bpg_format.proofs.Typed.{entries-count}
 use Rattle.bpg_check.specs.Check.{statusOf}
@@ -17,8 +17,8 @@ use Rattle.bpg_check.proofs.entries.status.Tie as tie
 
 abbrev Inv-loop : tie.InvT-loop
 Inv-loop «record» source entries count seen₀ k₀ seen k =
-    statusOf (checkEntries (recordLoop «record») seen (map (extensionOf source) (drop k (take count entries))))
-    ≡ statusOf (checkEntries (recordLoop «record») false (map (extensionOf source) (take count entries)))
+    statusOf (checkEntries (recordAnimation «record») seen (map (extensionOf source) (drop k (take count entries))))
+    ≡ statusOf (checkEntries (recordAnimation «record») false (map (extensionOf source) (take count entries)))
 
 abbrev μ-loop : tie.MeasureT-loop
 μ-loop «record» source entries count seen₀ k₀ seen k = count - k

@@ -1,4 +1,4 @@
--- `block::read` meets its contract. The invariant is `Reading`: the entries so far stand in the block.
+-- `block::read` meets its contract. The invariant is `ReadSoFar`: the entries so far stand in the block.
 use mathlib.Core.Path.{_≡_, sym, ap, _∙_, subst}
 use mathlib.Core.Bool.{Bool, false}
 use mathlib.Core.List.{List}
@@ -13,15 +13,15 @@ use Rattle.bpg_bytes.specs.Positions.{bytePos}
 use Rattle.bpg_format.specs.Limits.{maxEntries}
 use Rattle.bpg_format.specs.declared.record.Entry.{Entry}
 use Rattle.bpg_format.specs.Content.{Extension}
-use Rattle.bpg_format.specs.Rules.{noLoop}
+use Rattle.bpg_format.specs.Rules.{noAnimation}
 use Rattle.bpg_format.specs.Read.{readEntry, readEntries}
 use Rattle.bpg_entries.specs.declared.animation.Animation.{Animation}
 use Rattle.bpg_entries.specs.declared.entry.Step.{Step}
 use Rattle.bpg_entries.specs.declared.block.Block.{Block}
-use Rattle.bpg_entries.specs.Animations.{loopAnswer}
+use Rattle.bpg_entries.specs.Animations.{foundAnimation}
 use Rattle.bpg_entries.specs.Blocks.{refusedBlock, blockAnswer, entriesIn}
 use Rattle.bpg_entries.proofs.EntryLaws.{Started, step-refused, step-started, plain-read, numbers-refused, numbers-read}
-use Rattle.bpg_entries.proofs.BlockLaws.{Reading, begins, ends, full, stops, goes-on, animates, count-most, too-long, in-region}
+use Rattle.bpg_entries.proofs.BlockLaws.{ReadSoFar, begins, ends, full, stops, goes-on, animates, count-most, too-long, in-region}
 use Rattle.bpg_entries.proofs.block.read.Statement.{statement}
 use Rattle.bpg_entries.proofs.block.read.Tie as tie
 
@@ -31,7 +31,7 @@ made es n animated animation = record { status = 0; offset = bytePos 0; «entry_
 
 abbrev Inv-loop : tie.InvT-loop
 Inv-loop region entries₀ entry-count₀ animated₀ animation₀ next₀ entries entry-count animated animation next =
-    Reading region next₀ (made entries entry-count animated animation) next
+    ReadSoFar region next₀ (made entries entry-count animated animation) next
 
 abbrev μ-loop : tie.MeasureT-loop
 μ-loop region entries₀ entry-count₀ animated₀ animation₀ next₀ entries entry-count animated animation next = maxEntries - entry-count
@@ -42,8 +42,8 @@ returns c = c .refused .ensures ∙ too-long _ _ (c .before .if1 .taken)
 loop-holds : tie.Need-loop-holds Inv-loop μ-loop
 loop-holds c =
     let a = c .before .before .before .before .args in
-    subst (λ (y : Animation). Reading (a .region .now) (a .at .0) (made (replicate maxEntries (c .before .zero-entry .result)) 0 false y) (a .at .0)) (sym (c .none .ensures))
-    (subst (λ (e : Entry). Reading (a .region .now) (a .at .0) (made (replicate maxEntries e) 0 false (loopAnswer noLoop)) (a .at .0)) (sym (c .before .zero-entry .ensures))
+    subst (λ (y : Animation). ReadSoFar (a .region .now) (a .at .0) (made (replicate maxEntries (c .before .zero-entry .result)) 0 false y) (a .at .0)) (sym (c .none .ensures))
+    (subst (λ (e : Entry). ReadSoFar (a .region .now) (a .at .0) (made (replicate maxEntries e) 0 false (foundAnimation noAnimation)) (a .at .0)) (sym (c .before .zero-entry .ensures))
     (begins (a .region .now) (a .at .0)))
 
 -- a turn of the loop

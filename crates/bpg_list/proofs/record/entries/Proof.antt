@@ -9,28 +9,28 @@ use lib.Seq.{take-all, take-suc-set}
 use borrow.Author.Needs.{needs}
 use Rattle.bpg_format.specs.Limits.{maxEntries}
 use Rattle.bpg_format.specs.declared.record.Entry.{Entry}
-use Rattle.bpg_list.specs.Numbers.{entryAt, entriesAt}
+use Rattle.bpg_list.specs.Numbers.{entryAt, listEntries}
 use Rattle.bpg_list.proofs.NumberLaws.{entries-more}
 use Rattle.bpg_list.proofs.record.entries.Statement.{statement}
 use Rattle.bpg_list.proofs.record.entries.Tie as tie
 
 abbrev Inv-loop : tie.InvT-loop
-Inv-loop numbers all₀ k₀ all k = (k ≤ maxEntries) × (length all ≡ maxEntries) × (take k all ≡ entriesAt numbers 12 k)
+Inv-loop numbers all₀ k₀ all k = (k ≤ maxEntries) × (length all ≡ maxEntries) × (take k all ≡ listEntries numbers 12 k)
 
 abbrev μ-loop : tie.MeasureT-loop
 μ-loop numbers all₀ k₀ all k = maxEntries - k
 
-none : (numbers : List ℕ) → [] ≡ entriesAt numbers 12 0
-unfolding entriesAt
+none : (numbers : List ℕ) → [] ≡ listEntries numbers 12 0
+unfolding listEntries
 none numbers = refl
 
 -- one more entry
-step : (numbers : List ℕ) (all : List Entry) (k : ℕ) (e : Entry) → k < length all → take k all ≡ entriesAt numbers 12 k → e ≡ entryAt numbers (12 + 3 * k)
-    → take (k + 1) (set all k e) ≡ entriesAt numbers 12 (k + 1)
+step : (numbers : List ℕ) (all : List Entry) (k : ℕ) (e : Entry) → k < length all → take k all ≡ listEntries numbers 12 k → e ≡ entryAt numbers (12 + 3 * k)
+    → take (k + 1) (set all k e) ≡ listEntries numbers 12 (k + 1)
 step numbers all k e h p q = rw (add-one, take-suc-set, p, q) (sym (entries-more numbers 12 k))
 
-all-entries : (numbers : List ℕ) (all : List Entry) (k : ℕ) → k ≡ maxEntries → length all ≡ maxEntries → take k all ≡ entriesAt numbers 12 k → all ≡ entriesAt numbers 12 maxEntries
-all-entries numbers all k e n p = sym (take-all k all (omega arith)) ∙ p ∙ ap (entriesAt numbers 12) e
+all-entries : (numbers : List ℕ) (all : List Entry) (k : ℕ) → k ≡ maxEntries → length all ≡ maxEntries → take k all ≡ listEntries numbers 12 k → all ≡ listEntries numbers 12 maxEntries
+all-entries numbers all k e n p = sym (take-all k all (omega arith)) ∙ p ∙ ap (listEntries numbers 12) e
 
 loop-holds : tie.Need-loop-holds Inv-loop μ-loop
 loop-holds c = (omega arith, refl, none (c .before .before .args .numbers .now))

@@ -1,7 +1,7 @@
 -- `record::from` meets its contract.
 use mathlib.Core.List.{[], _∷_}
 use native.Mathlib.Omega.{arith}
-use Rattle.bpg_list.specs.Numbers.{recordOf}
+use Rattle.bpg_list.specs.Numbers.{listRecord}
 use borrow.Author.Needs.{needs}
 use Rattle.bpg_list.proofs.record.from.Statement.{statement}
 use Rattle.bpg_list.proofs.record.from.Tie as tie
@@ -10,7 +10,7 @@ u16-at-requires-3 : tie.Need-u16-at-requires-3
 u16-at-requires-3 c κs = omega (arith, c .before .before .before .before .before .before .before .before .before .before .before .before .before .before .before .before .before .before .before .pre)
 
 returns : tie.Need-returns
-unfolding recordOf
+unfolding listRecord
 returns c =
     let w15 = c in
     let w14 = w15 .before in

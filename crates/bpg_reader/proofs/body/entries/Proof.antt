@@ -4,7 +4,7 @@ use lib.ListN.{take, drop}
 use Prim.Native.Nat.{_-_}
 use Rattle.bpg_format.specs.Read.{readBlock}
 use Rattle.bpg_entries.specs.Blocks.{blockAnswer, entriesIn}
-use Rattle.bpg_reader.specs.Bodies.{headFields, bodyStart}
+use Rattle.bpg_reader.specs.Bodies.{headFields, headersStart}
 use Rattle.bpg_reader.proofs.EntryBlock.{block-too-large, block-empty, block-region}
 use borrow.Author.Needs.{needs}
 use Rattle.bpg_reader.proofs.body.entries.Statement.{statement}
@@ -17,7 +17,7 @@ module _ (c : tie.Else1) where
 
   region : let h = headFields (start .args .head) in
       let file = start .args .file .now in
-      blockAnswer (h .end) (entriesIn (take (bodyStart h - 0) file) (h .end)) ≡ blockAnswer (h .end) (readBlock h (drop (h .end) file))
+      blockAnswer (h .end) (entriesIn (take (headersStart h - 0) file) (h .end)) ≡ blockAnswer (h .end) (readBlock h (drop (h .end) file))
   region = block-region _ (start .pre .0) (headFields (start .args .head)) (start .pre .1) (c .if1 .left)
 
 returns : tie.Need-returns

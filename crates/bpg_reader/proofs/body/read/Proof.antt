@@ -11,12 +11,12 @@ use Rattle.bpg_codec.specs.Lawful.{All, Byte}
 use Rattle.bpg_codec.proofs.Tokens.{all-bytes}
 use Rattle.bpg_format.specs.Limits.{maxFile}
 use Rattle.bpg_format.specs.Content.{hasAlpha, bitDepth}
-use Rattle.bpg_format.specs.Tests.{countsBody}
+use Rattle.bpg_format.specs.Tests.{countsToEnd}
 use Rattle.bpg_format.specs.Read.{readHead}
 use Rattle.bpg_head.specs.declared.head.Head.{Head}
 use Rattle.bpg_head.proofs.HeadLaws.{head-facts}
 use Rattle.bpg_header.specs.BothHeaders.{headersAnswer, headersIn}
-use Rattle.bpg_reader.specs.Bodies.{headFields, bodyStart}
+use Rattle.bpg_reader.specs.Bodies.{headFields, headersStart}
 use Rattle.bpg_reader.proofs.BodyLaws.{entries-refused, block-inside, no-control, length-misses, headers-refused, next-inside, min-cb-small, body-read}
 use borrow.Author.Needs.{needs}
 use Rattle.bpg_reader.proofs.body.read.Statement.{statement}
@@ -53,7 +53,7 @@ module _ (c : tie.Else2) where
   controlled : (not (head entered .flags .«animation_flag») || entered .entries .result .animated) ≡ true
   controlled = sym (c .before .control-fits .ensures) ∙ not-false _ (c .if2 .left)
 
-  inside : bodyStart (headFields (head entered)) ≤ length (file entered)
+  inside : headersStart (headFields (head entered)) ≤ length (file entered)
   inside = block-inside (file entered) (short entered) (head entered) (known entered) (entered .entries .result) (entered .entries .ensures) accepted
 
 -- and the headers were read
@@ -64,14 +64,14 @@ module _ (c : tie.After-read) where
   abbrev at-head : Head
   at-head = head (entered checked)
 
-  counted : countsBody (at-head .«data_length») (length (file (entered checked)) - bodyStart (headFields at-head)) ≡ true
+  counted : countsToEnd (at-head .«data_length») (length (file (entered checked)) - headersStart (headFields at-head)) ≡ true
   counted = sym (c .before .before .before .before .reaches-end .ensures) ∙ not-false _ (c .before .before .before .if3 .left)
 
   headers-are : c .read .result
-      ≡ headersAnswer (headersIn (file (entered checked)) (hasAlpha (headFields at-head .flags)) (bitDepth (headFields at-head .flags)) (bodyStart (headFields at-head)))
+      ≡ headersAnswer (headersIn (file (entered checked)) (hasAlpha (headFields at-head .flags)) (bitDepth (headFields at-head .flags)) (headersStart (headFields at-head)))
   headers-are =
       c .read .ensures
-      ∙ ap (λ (b : Bool). headersAnswer (headersIn (file (entered checked)) b (bitDepth (headFields at-head .flags)) (bodyStart (headFields at-head))))
+      ∙ ap (λ (b : Bool). headersAnswer (headersIn (file (entered checked)) b (bitDepth (headFields at-head .flags)) (headersStart (headFields at-head))))
       (c .before .before .has-alpha .ensures)
 
 entries-requires : tie.Need-entries-requires
