@@ -1,12 +1,13 @@
 -- What writing answers, by the judging and by the size of the file.
-use mathlib.Core.Path.{_≡_, sym, ap, _∙_}
-use mathlib.Core.Logic.{_≢_}
+use mathlib.Core.Path.{_≡_, refl, sym, ap, _∙_}
+use mathlib.Core.Logic.{_↔_, _≢_}
 use mathlib.Core.List.{List, _++_}
 use Prim.Native.Nat.{ℕ, _+_, _≤_, _<_}
 use native.Mathlib.Omega.{arith}
 use lib.ListN.{length, drop}
 use borrow.Author.Tests.{le-leb, lt-leb}
 use Rattle.bpg_codec.specs.Outcome.{Outcome, ok, error}
+use Rattle.bpg_codec.specs.Lawful.{All, Byte}
 use Rattle.bpg_codec.specs.Buffer.{written}
 use Rattle.bpg_codec.proofs.Buffer.{stored}
 use Rattle.bpg_format.specs.Limits.{maxFile}
@@ -15,8 +16,9 @@ use Rattle.bpg_format.specs.declared.answer.Written.{Written}
 use Rattle.bpg_format.specs.Zero.{refusedWritten}
 use Rattle.bpg_format.specs.Syntax.{fileOf}
 use Rattle.bpg_format.specs.Records.{contentOf}
-use Rattle.bpg_format.specs.Write.{sizedFile, writeOutcome, writtenAnswer, writtenBuffer, writeFile, writeBuffer, checkRecord}
+use Rattle.bpg_format.specs.Write.{sizedFile, writeOutcome, writtenAnswer, writtenBuffer, writeFile, writeBuffer, checkRecord, Typed, Writable}
 use Rattle.bpg_format.proofs.Writing.{write-checks}
+use Rattle.bpg_format.proofs.Requirements.{writing}
 use Rattle.bpg_check.specs.Check.{checkStatus}
 use Rattle.bpg_check.proofs.Judgement.{check-refuses}
 
@@ -25,8 +27,15 @@ module _ (r : Record) (source out : List ℕ) where
   file = fileOf (contentOf r source)
 
   -- the answer and the buffer
-  abbrev Answers : Written → List ℕ → Type 0
+  abbrev pub Answers : Written → List ℕ → Type 0
   Answers w after = (w ≡ writeFile r source out) × (after ≡ writeBuffer r source out)
+
+  -- and that the status is 0 exactly when the record is writable
+  abbrev pub Exact : Written → List ℕ → Type 0
+  Exact w after = (w ≡ writeFile r source out) × ((after ≡ writeBuffer r source out) × ((w .status ≡ 0) ↔ Writable (length out) r source))
+
+  pub exact : Typed r → All Byte source → (w v : Written) (after : List ℕ) → w ≡ v → Answers v after → Exact w after
+  exact t b w v after e a = rw (e ∙ a .0) (refl, (a .1, writing .exactly r source out t b))
 
   refused : (s : ℕ) → writeOutcome (length out) r source ≡ error s 0 → Answers (refusedWritten s 0) out
   unfolding writeFile writeBuffer

@@ -12,13 +12,14 @@ use bpg_format::Written;
 use bpg_format::has_alpha;
 use bpg_format::written_refused;
 ghost use mathlib.Core.Path.{_≡_};
+ghost use mathlib.Core.Logic.{_↔_};
 ghost use Prim.Native.Nat.{_+_, _≤_};
 ghost use lib.ListN.{length as count};
 ghost use Rattle.bpg_codec.specs.Lawful.{All};
 ghost use Rattle.bpg_codec.specs.Buffer.{written};
 ghost use Rattle.bpg_format.specs.Limits.{maxEntries, maxFile};
 ghost use Rattle.bpg_format.specs.Records.{usedEntries};
-ghost use Rattle.bpg_format.specs.Write.{writeFile, writeBuffer};
+ghost use Rattle.bpg_format.specs.Write.{writeFile, writeBuffer, Writable};
 ghost use Rattle.bpg_writer.specs.Parts.{Encoded, RangeInside, entriesPart, filePart};
 
 // The bits of a header, where it is there: an absent header is never looked at again.
@@ -66,6 +67,7 @@ fn emit_file(
 pub fn write(record: Record, source: &[u8], out: &mut [u8]) -> Written
     ensures { λ r. ⌜ r ≡ writeFile «record» (now (source .entry)) (now (out .entry)) ⌝ }
     ensures { λ r. ⌜ now (out .exit) ≡ writeBuffer «record» (now (source .entry)) (now (out .entry)) ⌝ }
+    ensures { λ r. ⌜ (r .status ≡ 0) ↔ Writable (count (now (out .entry))) «record» (now (source .entry)) ⌝ }
 {
     let status = judge::record(record, source);
     if status != 0 {

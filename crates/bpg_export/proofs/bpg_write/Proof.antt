@@ -19,7 +19,7 @@ returns-2 c =
     let r = k .before in
     let a = r .before .before .before .before .args in
     as-record (a .numbers .now) (a .source .now) (a .out .now) (r .truncated .result) (r .truncated .ensures) (k .check .result) (k .check .ensures) (e .if1 .left) _ _
-    (w .write .ensures .0) (w .write .ensures .1)
+    (w .write .ensures .0) (w .write .ensures .1 .0)
 
 pub bpg-write-spec : {M : Type 1} → statement M
 bpg-write-spec =

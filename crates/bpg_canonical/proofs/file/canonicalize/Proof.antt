@@ -27,7 +27,7 @@ returns-2 c =
     let e1 = ap (λ (x : Record). writeFile x file (s .args .out .now)) (k .canonical .ensures) in
     let e2 = ap (λ (x : Record). writeBuffer x file (s .args .out .now)) (k .canonical .ensures) in
     canonicalized file (s .args .out .now) (r .read .result) (r .read .ensures .0) (all-bytes file (λ i. omega (arith, r .before .before .shared-slice-known .given i))) (e .if1 .left) _ _
-    (w .write .ensures .0 ∙ e1) (w .write .ensures .1 ∙ e2)
+    (w .write .ensures .0 ∙ e1) (w .write .ensures .1 .0 ∙ e2)
 
 pub canonicalize-spec : {M : Type 1} → statement M
 canonicalize-spec =

@@ -7,28 +7,40 @@ use native.Mathlib.Omega.{arith}
 use lib.ListN.{length, getD}
 use Rattle.bpg_codec.specs.Outcome.{ok}
 use Rattle.bpg_codec.specs.Buffer.{written}
+use Rattle.bpg_codec.proofs.Tokens.{all-bytes}
 use Rattle.bpg_format.specs.declared.record.Header.{Header}
 use Rattle.bpg_format.specs.declared.record.Record.{Record}
+use Rattle.bpg_format.specs.declared.answer.Written.{Written}
 use Rattle.bpg_format.specs.Zero.{zeroHeader}
 use Rattle.bpg_format.specs.Syntax.{fileOf}
 use Rattle.bpg_format.specs.Records.{usedEntries, contentOf}
 use Rattle.bpg_format.specs.Write.{checkRecord}
-use Rattle.bpg_format.proofs.Typed.{headers-count}
+use Rattle.bpg_format.proofs.Typed.{headers-count, typed}
 use Rattle.bpg_check.proofs.ConsistentLaws.{header-at}
 use Rattle.bpg_check.proofs.Judgement.{check-passes}
 use Rattle.bpg_writer.specs.declared.layout.Layout.{Layout}
 use Rattle.bpg_writer.specs.Parts.{Encoded, entriesPart, filePart}
 use Rattle.bpg_writer.proofs.JudgedLaws.{Judged, judged}
 use Rattle.bpg_writer.proofs.SizeLaws.{entries-measured, file-is, total-measured, block-inside}
-use Rattle.bpg_writer.proofs.FileLaws.{judged-out, too-long, too-small, file-written}
+use Rattle.bpg_writer.proofs.FileLaws.{Answers, Exact, exact, judged-out, too-long, too-small, file-written}
 use borrow.Author.Needs.{needs}
 use Rattle.bpg_writer.proofs.file.write.Statement.{statement}
 use Rattle.bpg_writer.proofs.file.write.Tie as tie
 
+-- what the types say of the record and of the source
+answered : (c : tie.After-shared-slice-known) (w v : Written) (after : List ℕ) → w ≡ v
+    → let a = c .before .args in Answers (a .t1) (a .source .now) (a .out .now) v after → Exact (a .t1) (a .source .now) (a .out .now) w after
+answered c =
+    let a = c .before .args in
+    exact (a .t1) (a .source .now) (a .out .now) (typed (a .t1) (c .before .good .0)) (all-bytes (a .source .now) (λ i. omega (arith, c .shared-slice-known .given i)))
+
 -- the record passed the judging
 module _ (c : tie.Else1) where
+  abbrev entered : tie.After-shared-slice-known
+  entered = c .before .before .before
+
   abbrev start : tie.Start
-  start = c .before .before .before .before
+  start = entered .before
 
   abbrev source : List ℕ
   source = start .args .source .now
@@ -99,8 +111,8 @@ returns : tie.Need-returns
 returns c =
     let j = c .before .before in
     let s = j .before .before .before in
-    let a = judged-out (s .args .t1) (s .args .source .now) (s .args .out .now) (j .«record» .result) (j .«record» .ensures) (c .before .if1 .taken) in
-    (c .written-refused .ensures ∙ a .0, a .1)
+    answered (j .before .before) _ _ _ (c .written-refused .ensures)
+    (judged-out (s .args .t1) (s .args .source .now) (s .args .out .now) (j .«record» .result) (j .«record» .ensures) (c .before .if1 .taken))
 
 measure-requires : tie.Need-measure-requires
 measure-requires c κs = (known (begun c) .few, (c .before .encoded .ensures .0, c .encoded2 .ensures .0))
@@ -109,16 +121,16 @@ returns-2 : tie.Need-returns-2
 returns-2 c =
     let m = c .before .before in
     let b = begun (coded m) in
-    let a = too-long (r (coded m)) (source b) (out b) (passed b) (omega (arith, c .before .if2 .taken, total-is m)) in
-    (c .written-refused2 .ensures ∙ a .0, a .1)
+    answered (entered b) _ _ _ (c .written-refused2 .ensures)
+    (too-long (r (coded m)) (source b) (out b) (passed b) (omega (arith, c .before .if2 .taken, total-is m)))
 
 returns-3 : tie.Need-returns-3
 returns-3 c =
     let e = c .before .before in
     let m = e .before in
     let b = begun (coded m) in
-    let a = too-small (r (coded m)) (source b) (out b) (passed b) (omega (arith, e .if2 .left, total-is m)) (omega (arith, c .before .if3 .taken, total-is m)) in
-    (c .written-refused3 .ensures ∙ a .0, a .1)
+    answered (entered b) _ _ _ (c .written-refused3 .ensures)
+    (too-small (r (coded m)) (source b) (out b) (passed b) (omega (arith, e .if2 .left, total-is m)) (omega (arith, c .before .if3 .taken, total-is m)))
 
 emit-file-requires : tie.Need-emit-file-requires
 emit-file-requires c κs =
@@ -161,9 +173,9 @@ returns-4 c =
     let m = t .before .before in
     let b = begun (coded m) in
     let e = total-is m in
-    let a = file-written (r (coded m)) (source b) (out b) (passed b) (omega (arith, t .before .if2 .left, e)) (omega (arith, t .if3 .left, e)) (w .emit-file .last .0)
-    (w .emit-file .ensures ∙ ap (written (out b) 0) (file-part m)) in
-    (ap (λ (n : ℕ). record { status = 0; offset = 0; count = n }) e ∙ a .0, a .1)
+    answered (entered b) _ _ _ (ap (λ (n : ℕ). record { status = 0; offset = 0; count = n }) e)
+    (file-written (r (coded m)) (source b) (out b) (passed b) (omega (arith, t .before .if2 .left, e)) (omega (arith, t .if3 .left, e)) (w .emit-file .last .0)
+    (w .emit-file .ensures ∙ ap (written (out b) 0) (file-part m)))
 
 pub write-spec : {M : Type 1} → statement M
 write-spec =
