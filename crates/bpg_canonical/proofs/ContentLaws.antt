@@ -11,7 +11,7 @@ use borrow.Author.Tests.{ne-eqb}
 use Rattle.bpg_codec.specs.Lawful.{All}
 use Rattle.bpg_codec.specs.Bits.{allZero}
 use Rattle.bpg_codec.proofs.Select.{select-true, select-false}
-use Rattle.bpg_numbers.specs.Ue7.{ue7Bytes}
+use Rattle.bpg_ue7.specs.Ue7.{ue7Bytes}
 use Rattle.bpg_format.specs.declared.record.Entry.{Entry}
 use Rattle.bpg_format.specs.declared.record.Header.{Header}
 use Rattle.bpg_format.specs.Zero.{range, zeroEntry}
@@ -26,8 +26,8 @@ use Rattle.bpg_format.proofs.Writing.{record-writable}
 use Rattle.bpg_format.proofs.CanonicalLaws.{canonical-rules}
 use Rattle.bpg_writer.specs.Parts.{RangeInside}
 use Rattle.bpg_writer.proofs.PartLaws.{range-length}
-use Rattle.bpg_choices.specs.Records.{loopSize, canonicalEntry, hasRange, canonicalHeader, canonicalRecord}
-use Rattle.bpg_choices.proofs.RecordLaws.{take-changed, drop-changed}
+use Rattle.bpg_canonical_record.specs.Records.{loopSize, canonicalEntry, hasRange, canonicalHeader, canonicalRecord}
+use Rattle.bpg_canonical_record.proofs.RecordLaws.{take-changed, drop-changed}
 
 -- ---- an entry
 

@@ -27,7 +27,7 @@ use Rattle.bpg_format.proofs.ReadingLaws.{read-is}
 use Rattle.bpg_format.proofs.ReadingRefusals.{content-refuses}
 use Rattle.bpg_format.proofs.CanonicalLaws.{canonical-rules}
 use Rattle.bpg_format.proofs.Writing.{written-full, write-checks}
-use Rattle.bpg_choices.specs.Records.{canonicalRecord}
+use Rattle.bpg_canonical_record.specs.Records.{canonicalRecord}
 use Rattle.bpg_canonical.proofs.ContentLaws.{canonical-content, canonical-writable}
 
 -- ---- writing the canonical record over its file

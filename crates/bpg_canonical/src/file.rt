@@ -14,6 +14,6 @@ pub fn canonicalize(file: &[u8], out: &mut [u8]) -> Written
         return written_refused(reading.status, reading.offset);
     }
     let found = reading.record;
-    let canonical = bpg_choices::canonical(found);
+    let canonical = bpg_canonical_record::canonical(found);
     bpg_writer::write(canonical, file, out)
 }

@@ -12,7 +12,7 @@ use Rattle.bpg_codec.specs.Lawful.{All, Byte}
 use Rattle.bpg_codec.proofs.Lists.{either-way}
 use Rattle.bpg_codec.proofs.Select.{select-true, select-false}
 use Rattle.bpg_bytes.specs.declared.position.BytePos.{BytePos}
-use Rattle.bpg_numbers.specs.Ue7.{ue7Bytes}
+use Rattle.bpg_ue7.specs.Ue7.{ue7Bytes}
 use Rattle.bpg_format.specs.Limits.{maxFile}
 use Rattle.bpg_format.specs.declared.record.Entry.{Entry}
 use Rattle.bpg_format.specs.declared.record.Record.{Record}
@@ -27,8 +27,8 @@ use Rattle.bpg_format.specs.Parts.{entryOf}
 use Rattle.bpg_format.proofs.ReadingLaws.{reads, read-is}
 use Rattle.bpg_format.proofs.RecordLaws.{beforeEntries, file-entries, before-length, entries-length, used-entries}
 use Rattle.bpg_format.proofs.Requirements.{refusals}
-use Rattle.bpg_entries.specs.Entries.{entryStart}
-use Rattle.bpg_entries.proofs.CheckedEntry.{in-region, past-end, entry-written}
+use Rattle.bpg_read_entries.specs.Entries.{entryStart}
+use Rattle.bpg_read_entries.proofs.CheckedEntry.{in-region, past-end, entry-written}
 use Rattle.bpg_reader.specs.declared.parts.EntryAt.{EntryAt}
 use Rattle.bpg_reader.specs.declared.bounds.BlockBounds.{BlockBounds}
 use Rattle.bpg_reader.specs.Entries.{entryAnswer}

@@ -7,14 +7,14 @@
 // A buffer is filled with a5 first.
 use crate::hex;
 use crate::text;
-use bpg_bit_buffer::BitBuffer;
 use bpg_bits::bits;
 use bpg_bits::bits::BitNumber;
 use bpg_bits::exp_golomb;
 use bpg_bytes::BitPos;
 use bpg_bytes::BytePos;
-use bpg_numbers::ue7;
-use bpg_numbers::ue7::Number;
+use bpg_ue7::ue7;
+use bpg_ue7::ue7::Number;
+use bpg_write_bits::BitBuffer;
 ghost use Prim.Native.Nat.{_≤_};
 
 fn wide(x: u8) -> u64
@@ -66,7 +66,7 @@ fn write_ue7(space: &mut [u8], size: usize, at: usize, v: u64) {
 }
 
 fn append(n: u32, at: usize, v: u64) {
-    let b = bpg_bit_buffer::append(
+    let b = bpg_write_bits::append(
         BitBuffer {
             bits: 0xa5a5_a5a5_a5a5_a5a5,
             len: BitPos(at),
@@ -82,8 +82,8 @@ fn append_exp_golomb(space: &mut [u8], size: usize, at: usize, v: u64) {
         return;
     }
     let low = (v % 0x1_0000_0000) as u32;
-    let b = bpg_bit_buffer::append_exp_golomb(bpg_bit_buffer::empty(), low);
-    let end = bpg_bit_buffer::write(&mut space[0..size], BytePos(at), b);
+    let b = bpg_write_bits::append_exp_golomb(bpg_write_bits::empty(), low);
+    let end = bpg_write_bits::write(&mut space[0..size], BytePos(at), b);
     show_pair(b" bits ", exp_golomb::size(low) as u64, b" next ", end.0);
     text::show(b" ");
     hex::show_bytes(&space[0..size]);

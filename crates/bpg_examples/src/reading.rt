@@ -4,7 +4,7 @@ use crate::fields;
 use crate::hex;
 use crate::text;
 use bpg_format::Reading;
-use bpg_line::line;
+use bpg_show_line::line;
 
 // The first bytes of a buffer.
 fn show_first(s: &[u8], count: usize) {

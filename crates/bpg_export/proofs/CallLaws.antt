@@ -17,9 +17,9 @@ use Rattle.bpg_format.specs.Zero.{zeroEntry}
 use Rattle.bpg_format.specs.Records.{readFile}
 use Rattle.bpg_format.specs.Parts.{entryOf}
 use Rattle.bpg_format.specs.Write.{writeOutcome, writtenAnswer, writtenBuffer, writeFile, writeBuffer}
-use Rattle.bpg_list.specs.Numbers.{recordLength, numbersFit}
-use Rattle.bpg_list.specs.Calls.{listed, truncatedList, listStatus}
-use Rattle.bpg_list.proofs.ReadLaws.{status-of}
+use Rattle.bpg_export_list.specs.Numbers.{recordLength, numbersFit}
+use Rattle.bpg_export_list.specs.Calls.{listed, truncatedList, listStatus}
+use Rattle.bpg_export_list.proofs.ReadLaws.{status-of}
 use Rattle.bpg_reader.specs.declared.parts.EntryAt.{EntryAt}
 use Rattle.bpg_reader.specs.Entries.{entryAnswer}
 use Rattle.bpg_reader.proofs.PartLaws.{entry-in}

@@ -22,8 +22,8 @@ use Rattle.bpg_format.proofs.RuleLaws.{bool-apart, by-tag}
 use Rattle.bpg_format.proofs.RecordLaws.{entries-length, content-record}
 use Rattle.bpg_format.proofs.ReadingLaws.{read-is}
 use Rattle.bpg_format.proofs.Writing.{record-writable}
-use Rattle.bpg_list.specs.Numbers.{entryNumbers}
-use Rattle.bpg_list.specs.Typing.{OfBits, TypedHeader, TypedRecord}
+use Rattle.bpg_export_list.specs.Numbers.{entryNumbers}
+use Rattle.bpg_export_list.specs.Typing.{OfBits, TypedHeader, TypedRecord}
 
 -- ---- a header
 

@@ -8,11 +8,11 @@ use Rattle.bpg_codec.specs.Outcome.{Outcome}
 use Rattle.bpg_format.specs.declared.record.Record.{Record}
 use Rattle.bpg_format.specs.Records.{readFile}
 use Rattle.bpg_format.specs.Write.{writeOutcome, writtenAnswer, writtenBuffer, writeFile, writeBuffer}
-use Rattle.bpg_list.specs.Numbers.{recordLength, numbersOf, readingNumbers}
-use Rattle.bpg_list.specs.Typing.{TypedRecord}
-use Rattle.bpg_list.specs.Theorems.{ListOf}
-use Rattle.bpg_list.proofs.WriteLaws.{listed-ok}
-use Rattle.bpg_list.proofs.Theorems.{list-theorems, long}
+use Rattle.bpg_export_list.specs.Numbers.{recordLength, numbersOf, readingNumbers}
+use Rattle.bpg_export_list.specs.Typing.{TypedRecord}
+use Rattle.bpg_export_list.specs.Theorems.{ListOf}
+use Rattle.bpg_export_list.proofs.WriteLaws.{listed-ok}
+use Rattle.bpg_export_list.proofs.Theorems.{list-theorems, long}
 use Rattle.bpg_export.specs.Calls.{readAnswer, readNumbers, listOutcome, writeAnswer, writeBytes}
 use Rattle.bpg_export.specs.Theorems.{CallTheorems}
 use Rattle.bpg_export.proofs.ReadTyped.{read-typed}

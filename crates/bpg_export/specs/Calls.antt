@@ -7,8 +7,8 @@ use Rattle.bpg_codec.specs.Outcome.{Outcome, _>>=_, guard}
 use Rattle.bpg_format.specs.declared.answer.Written.{Written}
 use Rattle.bpg_format.specs.Records.{readFile}
 use Rattle.bpg_format.specs.Write.{writeOutcome, writtenAnswer, writtenBuffer}
-use Rattle.bpg_list.specs.Numbers.{recordLength, listRecord, numbersFit}
-use Rattle.bpg_list.specs.Calls.{listed}
+use Rattle.bpg_export_list.specs.Numbers.{recordLength, listRecord, numbersFit}
+use Rattle.bpg_export_list.specs.Calls.{listed}
 
 -- ---- reading: the file's refusals, then 20 for a list that is too short
 

@@ -6,8 +6,8 @@ use Rattle.bpg_codec.specs.Lawful.{All, Byte}
 use Rattle.bpg_format.specs.declared.record.Record.{Record}
 use Rattle.bpg_format.specs.Records.{readFile}
 use Rattle.bpg_format.specs.Write.{writeFile, writeBuffer}
-use Rattle.bpg_list.specs.Typing.{TypedRecord}
-use Rattle.bpg_list.specs.Theorems.{ListOf}
+use Rattle.bpg_export_list.specs.Typing.{TypedRecord}
+use Rattle.bpg_export_list.specs.Theorems.{ListOf}
 use Rattle.bpg_export.specs.Calls.{readAnswer, readNumbers, writeAnswer, writeBytes}
 
 pub record CallTheorems : Type 0 where

@@ -15,7 +15,7 @@ pub extern "C" fn bpg_read(file: &[u8], numbers: &mut [u64], offset: &mut usize)
     ensures { λ _. ⌜ now (numbers .exit) ≡ readNumbers (now (file .entry)) (now (numbers .entry)) ⌝ }
 {
     let reading = bpg_reader::read(file);
-    let listed = bpg_list::write(reading, numbers);
+    let listed = bpg_export_list::write(reading, numbers);
     *offset = listed.offset;
     listed.status
 }
@@ -57,8 +57,8 @@ pub extern "C" fn bpg_write(numbers: &[u64], source: &[u8], out: &mut [u8], coun
     ensures { λ _. ⌜ now (count .exit) ≡ writeAnswer (now (numbers .entry)) (now (source .entry)) (now (out .entry)) .count ⌝ }
     ensures { λ _. ⌜ now (out .exit) ≡ writeBytes (now (numbers .entry)) (now (source .entry)) (now (out .entry)) ⌝ }
 {
-    let record = bpg_list::truncated(numbers);
-    let status = bpg_list::check(numbers, record);
+    let record = bpg_export_list::truncated(numbers);
+    let status = bpg_export_list::check(numbers, record);
     if status != 0 {
         *count = 0;
         return status;

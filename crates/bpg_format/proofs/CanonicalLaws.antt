@@ -13,8 +13,8 @@ use Rattle.bpg_codec.proofs.Select.{select-true, select-false}
 use Rattle.bpg_codec.proofs.Tokens.{all-append}
 use Rattle.bpg_codec.proofs.Bits.{length-bits}
 use Rattle.bpg_codec.proofs.Packed.{length-padded}
-use Rattle.bpg_numbers.specs.Ue7.{ue7Bytes}
-use Rattle.bpg_numbers.proofs.Ue7Laws.{size-grows, bytes-ue7}
+use Rattle.bpg_ue7.specs.Ue7.{ue7Bytes}
+use Rattle.bpg_ue7.proofs.Ue7Laws.{size-grows, bytes-ue7}
 use Rattle.bpg_format.specs.declared.record.Header.{Header}
 use Rattle.bpg_format.specs.Limits.{maxEntries, maxFile}
 use Rattle.bpg_format.specs.Zero.{zeroHeader}
@@ -148,7 +148,8 @@ pub choices-keep : (c : Content) (ch : Choices) → pictureOf (withChoices (pict
 unfolding pictureOf withChoices
 choices-keep c ch = rw (entries-keep (c .control) (ch .dummy) (c .extensions))
   where
-    payload-keep : (p : AnimationControl) (d : List ℕ) (e : Extension) → select (isAnimation e) [] (select (isAnimation e) (animationBytes p d) (select (isAnimation e) [] (e .payload))) ≡ select (isAnimation e) [] (e .payload)
+    payload-keep : (p : AnimationControl) (d : List ℕ) (e : Extension)
+        → select (isAnimation e) [] (select (isAnimation e) (animationBytes p d) (select (isAnimation e) [] (e .payload))) ≡ select (isAnimation e) [] (e .payload)
     payload-keep p d e =
         by-tag (isAnimation e) (λ l. select-true _ _ l ∙ sym (select-true _ _ l)) (λ l. select-false _ _ l ∙ select-false _ _ l)
 

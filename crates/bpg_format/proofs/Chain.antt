@@ -16,8 +16,8 @@ use Rattle.bpg_codec.specs.Parts.{sequence, mapped, guarded, sized, item, absen
 use Rattle.bpg_codec.specs.Regions.{thenRest, itemThenRest, mappedExact, derived, guardedRegion, rest, verbatim, decodeEach, repeated, packed}
 use Rattle.bpg_codec.proofs.Outcome.{ok-injective, unbind, unguard, bind-assoc, bind-cong}
 use Rattle.bpg_codec.proofs.Positions.{Advanced, advanced-then, absent-advances}
-use Rattle.bpg_numbers.specs.Ue7.{ue7Decode, notZero}
-use Rattle.bpg_numbers.proofs.Advances.{ue7-advances}
+use Rattle.bpg_ue7.specs.Ue7.{ue7Decode, notZero}
+use Rattle.bpg_ue7.proofs.Advances.{ue7-advances}
 use Rattle.bpg_bits.specs.BitNumbers.{unsignedDecode, expGolombDecode}
 use Rattle.bpg_format.specs.Limits.{maxEntries, maxFile}
 use Rattle.bpg_format.specs.declared.record.Header.{Header}

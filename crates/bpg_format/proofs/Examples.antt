@@ -5,14 +5,15 @@ use lib.Count.{leadingZeros}
 use Rattle.bpg_codec.specs.Select.{select}
 use Rattle.bpg_codec.specs.Lawful.{All}
 use Rattle.bpg_codec.specs.Bits.{bits, unpack, pack, padded}
-use Rattle.bpg_numbers.specs.Ue7.{groups, ue7Bytes, ue7Rest, ue7Decode}
+use Rattle.bpg_ue7.specs.Ue7.{groups, ue7Bytes, ue7Rest, ue7Decode}
 use Rattle.bpg_bits.specs.BitNumbers.{prefixDecode, expGolombBits}
 use Rattle.bpg_format.specs.Syntax.{extensionPart, headerBits, headerBytes, headersAndData, dataLength, fileOf}
 use Rattle.bpg_format.specs.Tests.{noForbiddenBit, pcmAllowed, hevcAllowed}
 use Rattle.bpg_format.specs.Read.{readFlags, readHead, readAnimation, animationOf, readEntry, readEntries, readBlock, readFields, readHeader, readAlphaHeader, readBody, readContent}
 use Rattle.bpg_format.specs.Records.{extensionLengthStart, blockStart, dataStart, recordOf, contentOf, readFile}
 use Rattle.bpg_format.specs.Parts.{entryOf}
-use Rattle.bpg_format.specs.Write.{rangesInSource, unusedZero, absentZero, headerZero, consistent, checkAnimation, checkEntries, fieldsCoded, checkHeader, checkContent, checkRecord, sizedFile, writeOutcome, writeFile, writeBuffer}
+use Rattle.bpg_format.specs.Write.{rangesInSource, unusedZero, absentZero, headerZero, consistent, checkAnimation, checkEntries, fieldsCoded, checkHeader}
+use Rattle.bpg_format.specs.Write.{checkContent, checkRecord, sizedFile, writeOutcome, writeFile, writeBuffer}
 use Rattle.bpg_format.specs.Pictures.{pictureOf, withChoices, canonicalContent, canonicalBytes, canonicalOutcome, canonicalFile, canonicalBuffer}
 use Rattle.bpg_format.specs.Requirements.{bytes}
 use Rattle.bpg_format.specs.Examples.{fileA, fileB, fileC, fileD, readingA, Holds, examples}

@@ -18,8 +18,8 @@ use Rattle.bpg_codec.proofs.Parts.{sequence-lawful, mapped-lawful, guarded-lawf
 use Rattle.bpg_codec.proofs.Regions.{thenRest-lawful, itemThenRest-lawful, mappedExact-lawful, derived-lawful, guardedRegion-lawful, rest-lawful}
 use Rattle.bpg_codec.proofs.Regions.{verbatim-lawful, repeated-lawful}
 use Rattle.bpg_codec.proofs.Packed.{packed-lawful}
-use Rattle.bpg_numbers.specs.Ue7.{notZero}
-use Rattle.bpg_numbers.proofs.Ue7Laws.{ue7-lawful, size-positive}
+use Rattle.bpg_ue7.specs.Ue7.{notZero}
+use Rattle.bpg_ue7.proofs.Ue7Laws.{ue7-lawful, size-positive}
 use Rattle.bpg_bits.proofs.BitNumberLaws.{unsigned-lawful, expGolomb-lawful}
 use Rattle.bpg_format.specs.Limits.{maxEntries, maxFile}
 use Rattle.bpg_format.specs.declared.record.Header.{Header}

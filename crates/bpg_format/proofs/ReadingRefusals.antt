@@ -16,9 +16,9 @@ use Rattle.bpg_codec.proofs.Refusals.{Refuses, refuses-ok, refuses-bind, refuse
 use Rattle.bpg_codec.proofs.Refusals.{guarded-refuses, sized-refuses, item-refuses, select-refuses, absent-refuses, fixed-refuses, thenRest-refuses}
 use Rattle.bpg_codec.proofs.Refusals.{itemThenRest-refuses, mappedExact-refuses, derived-refuses, guardedRegion-refuses, rest-refuses, verbatim-refuses}
 use Rattle.bpg_codec.proofs.Refusals.{repeated-refuses, packed-refuses}
-use Rattle.bpg_numbers.specs.Ue7.{ue7, notZero}
+use Rattle.bpg_ue7.specs.Ue7.{ue7, notZero}
 use Rattle.bpg_bits.specs.BitNumbers.{unsigned, expGolomb}
-use Rattle.bpg_numbers.proofs.Refusals.{ue7-refuses}
+use Rattle.bpg_ue7.proofs.Refusals.{ue7-refuses}
 use Rattle.bpg_bits.proofs.Refusals.{unsigned-refuses, expGolomb-refuses}
 use Rattle.bpg_format.specs.Limits.{maxEntries, maxFile}
 use Rattle.bpg_format.specs.Zero.{zeroHeader}

@@ -8,7 +8,7 @@ use lib.ListN.{length, take, drop, length-append}
 use lib.Seq.{take-append-seam, drop-append-seam, take-at, take-length}
 use Rattle.bpg_codec.specs.Select.{select}
 use Rattle.bpg_codec.proofs.Select.{select-true, select-false}
-use Rattle.bpg_numbers.specs.Ue7.{ue7Bytes}
+use Rattle.bpg_ue7.specs.Ue7.{ue7Bytes}
 use Rattle.bpg_format.specs.Content.{Extension, Content, hasAlpha}
 use Rattle.bpg_format.specs.Syntax.{magic, byte4, byte5, extensionBytes, blockBytes, extensionPart, headerBytes, headersAndData, dataLength, fileOf}
 use Rattle.bpg_format.specs.Rules.{Rules}

@@ -17,7 +17,7 @@ use Rattle.bpg_codec.specs.Parts.{sequence, mapped, guarded, sized, absent}
 use Rattle.bpg_codec.specs.Regions.{thenRest, itemThenRest, mappedExact, derived, guardedRegion, rest, verbatim, ValidEach, repeated}
 use Rattle.bpg_codec.proofs.Select.{select-true, select-false, is-true, is-false}
 use Rattle.bpg_codec.proofs.Outcome.{ok-injective, unbind}
-use Rattle.bpg_numbers.specs.Ue7.{ue7Bytes}
+use Rattle.bpg_ue7.specs.Ue7.{ue7Bytes}
 use Rattle.bpg_format.specs.Limits.{maxEntries, maxFile}
 use Rattle.bpg_format.specs.declared.record.Header.{Header}
 use Rattle.bpg_format.specs.Content.{Flags, Extension, AnimationControl, Content, hasAlpha, bitDepth}

@@ -15,7 +15,7 @@ use Rattle.bpg_codec.specs.Lawful.{All, Byte}
 use Rattle.bpg_codec.proofs.Select.{select-true, is-true, and-both, and-left, and-right}
 use Rattle.bpg_codec.proofs.Outcome.{ok-injective, unbind, unguard}
 use Rattle.bpg_codec.proofs.Tokens.{all-take, all-drop, all-replicate}
-use Rattle.bpg_numbers.specs.Ue7.{ue7Bytes, notZero}
+use Rattle.bpg_ue7.specs.Ue7.{ue7Bytes, notZero}
 use Rattle.bpg_format.specs.Limits.{maxEntries, maxFile}
 use Rattle.bpg_format.specs.declared.record.Entry.{Entry}
 use Rattle.bpg_format.specs.declared.record.Record.{Record}
@@ -25,12 +25,14 @@ use Rattle.bpg_format.specs.Syntax.{blockBytes, fileOf}
 use Rattle.bpg_format.specs.Rules.{HeaderRules, hasAnimation, noAnimation, Rules}
 use Rattle.bpg_format.specs.Tests.{colorSpaceAllowed}
 use Rattle.bpg_format.specs.Records.{entriesAt, blockStart, recordOf, extensionOf, usedEntries, contentOf}
-use Rattle.bpg_format.specs.Write.{inSource, entriesInSource, rangesInSource, isZero, zeroEntries, unusedZero, absentZero, sameAnimation, consistent, checkEntries, checkHeader, checkContent, checkRecord, sizedFile, writeOutcome, Typed, Writable}
+use Rattle.bpg_format.specs.Write.{inSource, entriesInSource, rangesInSource, isZero, zeroEntries, unusedZero, absentZero, sameAnimation, consistent, checkEntries}
+use Rattle.bpg_format.specs.Write.{checkHeader, checkContent, checkRecord, sizedFile, writeOutcome, Typed, Writable}
 use Rattle.bpg_format.proofs.HeaderRuleLaws.{unless-full, passed, by-flag}
 use Rattle.bpg_format.proofs.RuleLaws.{bool-apart, by-tag, flags-sound, flags-full, entry-size}
 use Rattle.bpg_format.proofs.RecordLaws.{used-entries, entries-length, content-record}
 use Rattle.bpg_format.proofs.RangeLaws.{start-after, data-end}
-use Rattle.bpg_format.proofs.WriteLaws.{same-loop, or-test, or-full, Absent, absent-sound, absent-full, absent-of, header-zero-sound, header-zero-full, zero-absent, header-checked, header-passes, TypedExtension, entries-checked, entries-pass}
+use Rattle.bpg_format.proofs.WriteLaws.{same-loop, or-test, or-full, Absent, absent-sound, absent-full, absent-of, header-zero-sound, header-zero-full}
+use Rattle.bpg_format.proofs.WriteLaws.{zero-absent, header-checked, header-passes, TypedExtension, entries-checked, entries-pass}
 
 -- ---- the content
 

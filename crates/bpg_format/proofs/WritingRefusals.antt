@@ -8,7 +8,7 @@ use lib.ListN.{length}
 use Rattle.bpg_codec.specs.Select.{select}
 use Rattle.bpg_codec.specs.Outcome.{Outcome, ok, error, _>>=_, guard}
 use Rattle.bpg_codec.proofs.Refusals.{Refuses, refuses-ok, refuses-error, refuses-bind, refuses-guard, refuses-select}
-use Rattle.bpg_numbers.specs.Ue7.{notZero}
+use Rattle.bpg_ue7.specs.Ue7.{notZero}
 use Rattle.bpg_format.specs.declared.record.Header.{Header}
 use Rattle.bpg_format.specs.declared.record.Record.{Record}
 use Rattle.bpg_format.specs.Limits.{maxEntries, maxFile}
@@ -18,7 +18,8 @@ use Rattle.bpg_format.specs.Rules.{isAnimation, hasAnimation}
 use Rattle.bpg_format.specs.Tests.{colorSpaceAllowed, noForbiddenBit, hevcAllowed}
 use Rattle.bpg_format.specs.Read.{readAnimation}
 use Rattle.bpg_format.specs.Records.{contentOf}
-use Rattle.bpg_format.specs.Write.{rangesInSource, unusedZero, consistent, sameAnimation, atZero, checkAnimation, checkEntries, fieldsCoded, checkHeader, checkContent, checkRecord, sizedFile, writeOutcome, WritingStatus}
+use Rattle.bpg_format.specs.Write.{rangesInSource, unusedZero, consistent, sameAnimation, atZero, checkAnimation, checkEntries, fieldsCoded, checkHeader}
+use Rattle.bpg_format.specs.Write.{checkContent, checkRecord, sizedFile, writeOutcome, WritingStatus}
 use Rattle.bpg_format.proofs.ReadingRefusals.{loop-refuses}
 
 abbrev pub AtZero : (status offset : ℕ) → Type 0

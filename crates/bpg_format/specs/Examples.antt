@@ -6,7 +6,7 @@ use mathlib.Core.List.{List, [], _∷_, _++_}
 use Prim.Native.Nat.{ℕ}
 use lib.ListN.{length, replicate}
 use Rattle.bpg_codec.specs.Outcome.{Outcome, ok, error, located}
-use Rattle.bpg_numbers.specs.Ue7.{ue7Decode}
+use Rattle.bpg_ue7.specs.Ue7.{ue7Decode}
 use Rattle.bpg_bits.specs.BitNumbers.{expGolombDecode}
 use Rattle.bpg_format.specs.declared.record.Entry.{Entry}
 use Rattle.bpg_format.specs.declared.record.Header.{Header}

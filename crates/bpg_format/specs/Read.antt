@@ -10,7 +10,7 @@ use Rattle.bpg_codec.specs.Select.{select}
 use Rattle.bpg_codec.specs.Lists.{same, member}
 use Rattle.bpg_codec.specs.Outcome.{Outcome, ok, error, _>>=_, guard, Decoded, decoded}
 use Rattle.bpg_codec.specs.Bits.{isPadding, unpack}
-use Rattle.bpg_numbers.specs.Ue7.{ue7Decode, notZero}
+use Rattle.bpg_ue7.specs.Ue7.{ue7Decode, notZero}
 use Rattle.bpg_bits.specs.BitNumbers.{unsignedDecode, expGolombDecode}
 use Rattle.bpg_format.specs.Limits.{maxEntries, maxFile}
 use Rattle.bpg_format.specs.declared.record.Header.{Header}

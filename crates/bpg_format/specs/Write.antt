@@ -10,7 +10,7 @@ use Rattle.bpg_codec.specs.Lists.{member}
 use Rattle.bpg_codec.specs.Outcome.{Outcome, ok, error, _>>=_, guard}
 use Rattle.bpg_codec.specs.Lawful.{All}
 use Rattle.bpg_codec.specs.Bits.{allZero}
-use Rattle.bpg_numbers.specs.Ue7.{notZero}
+use Rattle.bpg_ue7.specs.Ue7.{notZero}
 use Rattle.bpg_format.specs.Limits.{maxEntries, maxFile}
 use Rattle.bpg_format.specs.declared.record.Range.{Range}
 use Rattle.bpg_format.specs.declared.record.Entry.{Entry}

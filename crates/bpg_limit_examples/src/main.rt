@@ -4,7 +4,7 @@
 // Such a file is longer than the stack. None is stored: `read` is called in one place, before anything is written, and there the
 // compiler sees that each byte to be looked at is 0.
 use bpg_format::Reading;
-use bpg_line::line;
+use bpg_show_line::line;
 ghost use mathlib.Core.Path.{_≡_};
 ghost use lib.ListN.{length as count};
 

@@ -10,7 +10,7 @@ use Rattle.bpg_codec.specs.Codec.{atOwn}
 use Rattle.bpg_codec.specs.Regions.{packed}
 use Rattle.bpg_codec.proofs.Outcome.{ok-injective, unbind, bind-assoc, bind-cong}
 use Rattle.bpg_codec.proofs.Positions.{Advances, guarded-advances, item-advances, sized-advances, select-advances, absent-advances, left-after, within}
-use Rattle.bpg_numbers.proofs.Advances.{ue7-advances}
+use Rattle.bpg_ue7.proofs.Advances.{ue7-advances}
 use Rattle.bpg_format.specs.Limits.{maxFile}
 use Rattle.bpg_format.specs.declared.record.Header.{Header}
 use Rattle.bpg_format.specs.Zero.{zeroHeader}
@@ -20,9 +20,9 @@ use Rattle.bpg_format.specs.Tests.{countsToEnd, noForbiddenBit, hevcAllowed}
 use Rattle.bpg_format.specs.FileCodec.{headerFields, header, alphaHeader}
 use Rattle.bpg_format.specs.Read.{Head, readBlock, readHeader, readAlphaHeader, readBody}
 use Rattle.bpg_format.proofs.Chain.{header-chain, alpha-chain}
-use Rattle.bpg_header.specs.Headers.{headerIn}
-use Rattle.bpg_header.specs.BothHeaders.{alphaIn, headersIn}
-use Rattle.bpg_header.proofs.HeaderLaws.{in-file}
+use Rattle.bpg_read_headers.specs.Headers.{headerIn}
+use Rattle.bpg_read_headers.specs.BothHeaders.{alphaIn, headersIn}
+use Rattle.bpg_read_headers.proofs.HeaderLaws.{in-file}
 use Rattle.bpg_reader.specs.Bodies.{headersStart, bodyContent}
 
 -- ---- what is left after a header

@@ -20,12 +20,12 @@ use Rattle.bpg_format.specs.Tests.{countsToEnd}
 use Rattle.bpg_format.specs.Read.{Head, readHead, readBlock, readBody, readContent, ReadingStatus}
 use Rattle.bpg_format.specs.Records.{recordOf, answerOf}
 use Rattle.bpg_format.proofs.ReadingRefusals.{Numbered, content-refuses}
-use Rattle.bpg_head.specs.declared.head.Head.{Head as HeadReading}
-use Rattle.bpg_head.proofs.HeadLaws.{head-facts}
-use Rattle.bpg_entries.specs.declared.block.Block.{Block}
-use Rattle.bpg_entries.specs.Blocks.{blockAnswer}
-use Rattle.bpg_header.specs.declared.headers.HeadersReading.{HeadersReading}
-use Rattle.bpg_header.specs.BothHeaders.{headersAnswer, headersIn}
+use Rattle.bpg_read_head.specs.declared.head.Head.{Head as HeadReading}
+use Rattle.bpg_read_head.proofs.HeadLaws.{head-facts}
+use Rattle.bpg_read_entries.specs.declared.block.Block.{Block}
+use Rattle.bpg_read_entries.specs.Blocks.{blockAnswer}
+use Rattle.bpg_read_headers.specs.declared.headers.HeadersReading.{HeadersReading}
+use Rattle.bpg_read_headers.specs.BothHeaders.{headersAnswer, headersIn}
 use Rattle.bpg_reader.specs.Bodies.{headFields, headersStart, bodyContent}
 use Rattle.bpg_reader.specs.Assembled.{assembledReading}
 use Rattle.bpg_reader.proofs.BodyChain.{header-inside, alpha-inside, both-headers, body-chain}

@@ -21,10 +21,10 @@ use Rattle.bpg_format.specs.Read.{Head, readHead, readBlock, readBody, readCont
 use Rattle.bpg_format.specs.Records.{blockStart, answerOf, readFile}
 use Rattle.bpg_format.proofs.ReadingLaws.{read-is}
 use Rattle.bpg_format.proofs.ReadingRefusals.{content-refuses}
-use Rattle.bpg_head.specs.declared.head.Head.{Head as HeadReading}
-use Rattle.bpg_head.specs.Heads.{headAnswer}
-use Rattle.bpg_head.proofs.HeadLaws.{head-facts}
-use Rattle.bpg_header.specs.BothHeaders.{headersIn}
+use Rattle.bpg_read_head.specs.declared.head.Head.{Head as HeadReading}
+use Rattle.bpg_read_head.specs.Heads.{headAnswer}
+use Rattle.bpg_read_head.proofs.HeadLaws.{head-facts}
+use Rattle.bpg_read_headers.specs.BothHeaders.{headersIn}
 use Rattle.bpg_reader.specs.Bodies.{headersStart, bodyContent}
 use Rattle.bpg_reader.specs.Bounds.{bounds, blockBounds}
 use Rattle.bpg_reader.proofs.FileLaws.{head-content}

@@ -9,7 +9,7 @@ use borrow.Author.Tests.{le-leb, lt-leb}
 use Rattle.bpg_codec.proofs.Lists.{take-drop}
 use Rattle.bpg_format.specs.Limits.{maxFile}
 use Rattle.bpg_format.specs.Read.{Head, animationOf, readEntries, readBlock}
-use Rattle.bpg_entries.specs.Blocks.{refusedBlock, blockAnswer, entriesIn}
+use Rattle.bpg_read_entries.specs.Blocks.{refusedBlock, blockAnswer, entriesIn}
 use Rattle.bpg_reader.specs.Bodies.{headersStart}
 
 module _ (file : List ℕ) (short : length file ≤ maxFile) (h : Head) (inside : h .end ≤ length file) where

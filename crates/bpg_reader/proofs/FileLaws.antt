@@ -17,8 +17,8 @@ use Rattle.bpg_format.specs.Read.{readHead, readBody, readContent, ReadingStatu
 use Rattle.bpg_format.specs.Records.{answerOf, readFile}
 use Rattle.bpg_format.proofs.ReadingLaws.{accepted-status, status-accepted}
 use Rattle.bpg_format.proofs.ReadingRefusals.{content-refuses}
-use Rattle.bpg_head.specs.declared.head.Head.{Head}
-use Rattle.bpg_head.specs.Heads.{headAnswer}
+use Rattle.bpg_read_head.specs.declared.head.Head.{Head}
+use Rattle.bpg_read_head.specs.Heads.{headAnswer}
 use Rattle.bpg_reader.specs.Bodies.{headFields}
 use Rattle.bpg_reader.proofs.BodyLaws.{content-is}
 

@@ -1,14 +1,14 @@
 -- The record of a file, put together from what its parts were read as.
 use mathlib.Core.List.{[], _∷_}
 use Prim.Native.Nat.{ℕ, _-_}
-use Rattle.bpg_numbers.specs.Ue7.{notZero}
+use Rattle.bpg_ue7.specs.Ue7.{notZero}
 use Rattle.bpg_format.specs.declared.record.Record.{Record}
 use Rattle.bpg_format.specs.declared.answer.Reading.{Reading}
 use Rattle.bpg_format.specs.Zero.{range}
 use Rattle.bpg_format.specs.Records.{codedSize}
-use Rattle.bpg_head.specs.declared.head.Head.{Head}
-use Rattle.bpg_entries.specs.declared.block.Block.{Block}
-use Rattle.bpg_header.specs.declared.headers.HeadersReading.{HeadersReading}
+use Rattle.bpg_read_head.specs.declared.head.Head.{Head}
+use Rattle.bpg_read_entries.specs.declared.block.Block.{Block}
+use Rattle.bpg_read_headers.specs.declared.headers.HeadersReading.{HeadersReading}
 
 abbrev pub assembledRecord : (len : ℕ) → Head → Block → HeadersReading → Record
 assembledRecord len h b x =

@@ -1,12 +1,12 @@
 -- What the reader of the body (document 01, "Order of the file", items 4 to 7) is given and puts together.
 use mathlib.Core.List.{List}
 use Prim.Native.Nat.{ℕ, _+_}
-use Rattle.bpg_numbers.specs.Ue7.{notZero}
+use Rattle.bpg_ue7.specs.Ue7.{notZero}
 use Rattle.bpg_format.specs.declared.record.Header.{Header}
 use Rattle.bpg_format.specs.Content.{Extension, Content}
 use Rattle.bpg_format.specs.Read.{Head, animationOf}
-use Rattle.bpg_head.specs.declared.head.Head.{Head as HeadReading}
-use Rattle.bpg_head.specs.FlagBytes.{flagFields}
+use Rattle.bpg_read_head.specs.declared.head.Head.{Head as HeadReading}
+use Rattle.bpg_read_head.specs.FlagBytes.{flagFields}
 
 -- what a head that was read says
 abbrev pub headFields : HeadReading → Head

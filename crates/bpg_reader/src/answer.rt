@@ -1,10 +1,10 @@
 // The record of a file, put together from its parts.
-use bpg_entries::block::Block;
 use bpg_format::Range;
 use bpg_format::Reading;
 use bpg_format::Record;
-use bpg_head::head::Head;
-use bpg_header::headers::HeadersReading;
+use bpg_read_entries::block::Block;
+use bpg_read_head::head::Head;
+use bpg_read_headers::headers::HeadersReading;
 ghost use mathlib.Core.Path.{_≡_};
 ghost use Prim.Native.Nat.{_+_, _≤_, _-_, _*_, _/_, _^_};
 ghost use Rattle.bpg_format.specs.Limits.{maxFile};

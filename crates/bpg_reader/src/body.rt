@@ -1,13 +1,13 @@
 // What follows the head of a file: the extension block, the HEVC headers and the data.
 use crate::answer;
 use bpg_bytes::BytePos;
-use bpg_entries::block;
-use bpg_entries::block::Block;
 use bpg_format::Reading;
 use bpg_format::has_alpha;
 use bpg_format::reading_refused;
-use bpg_head::head::Head;
-use bpg_header::headers;
+use bpg_read_entries::block;
+use bpg_read_entries::block::Block;
+use bpg_read_head::head::Head;
+use bpg_read_headers::headers;
 ghost use mathlib.Core.Path.{_≡_};
 ghost use mathlib.Core.Bool.{not, _||_};
 ghost use Prim.Native.Nat.{_≤_};
@@ -17,7 +17,7 @@ ghost use Rattle.bpg_format.specs.Limits.{maxFile};
 ghost use Rattle.bpg_format.specs.Tests.{countsToEnd};
 ghost use Rattle.bpg_format.specs.Read.{readHead, readBlock, readBody};
 ghost use Rattle.bpg_format.specs.Records.{answerOf};
-ghost use Rattle.bpg_entries.specs.Blocks.{blockAnswer};
+ghost use Rattle.bpg_read_entries.specs.Blocks.{blockAnswer};
 ghost use Rattle.bpg_reader.specs.Bodies.{headFields};
 
 // The entries of the extension block. Without the extension flag its length is 0.

@@ -1,7 +1,7 @@
 // Where the extension block of a file lies.
 use crate::file::read;
 use bpg_bytes::BytePos;
-use bpg_head::head;
+use bpg_read_head::head;
 ghost use mathlib.Core.Path.{_≡_};
 ghost use Rattle.bpg_reader.specs.Bounds.{blockBounds};
 

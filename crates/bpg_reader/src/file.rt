@@ -3,7 +3,7 @@ use crate::body;
 use bpg_format::MAX_FILE;
 use bpg_format::Reading;
 use bpg_format::reading_refused;
-use bpg_head::head;
+use bpg_read_head::head;
 ghost use mathlib.Core.Path.{_≡_};
 ghost use mathlib.Core.Logic.{_↔_};
 ghost use Rattle.bpg_format.specs.Rules.{Accepted};

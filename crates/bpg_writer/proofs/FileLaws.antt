@@ -19,8 +19,8 @@ use Rattle.bpg_format.specs.Records.{contentOf}
 use Rattle.bpg_format.specs.Write.{sizedFile, writeOutcome, writtenAnswer, writtenBuffer, writeFile, writeBuffer, checkRecord, Typed, Writable}
 use Rattle.bpg_format.proofs.Writing.{write-checks}
 use Rattle.bpg_format.proofs.Requirements.{writing}
-use Rattle.bpg_check.specs.Check.{checkStatus}
-use Rattle.bpg_check.proofs.Judgement.{check-refuses}
+use Rattle.bpg_write_check.specs.Check.{checkStatus}
+use Rattle.bpg_write_check.proofs.Judgement.{check-refuses}
 
 module _ (r : Record) (source out : List ℕ) where
   abbrev file : List ℕ

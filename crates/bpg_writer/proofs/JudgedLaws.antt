@@ -10,7 +10,7 @@ use Rattle.bpg_codec.specs.Outcome.{ok}
 use Rattle.bpg_codec.specs.Lawful.{All}
 use Rattle.bpg_codec.proofs.Select.{select-true, and-left, and-right}
 use Rattle.bpg_codec.proofs.Outcome.{unguard, unbind, guard-holds}
-use Rattle.bpg_numbers.specs.Ue7.{notZero}
+use Rattle.bpg_ue7.specs.Ue7.{notZero}
 use Rattle.bpg_format.specs.Limits.{maxEntries}
 use Rattle.bpg_format.specs.declared.record.Header.{Header}
 use Rattle.bpg_format.specs.declared.record.Record.{Record}

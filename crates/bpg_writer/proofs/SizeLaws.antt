@@ -9,10 +9,10 @@ use Rattle.bpg_codec.specs.Select.{select}
 use Rattle.bpg_codec.specs.Lawful.{All}
 use Rattle.bpg_codec.specs.Bits.{bytesFor, padded}
 use Rattle.bpg_codec.proofs.Packed.{length-padded}
-use Rattle.bpg_numbers.specs.Ue7.{ue7Bytes}
-use Rattle.bpg_bit_buffer.specs.declared.BitBuffer.{BitBuffer}
-use Rattle.bpg_bit_buffer.specs.BitBuffer.{bufferBytes}
-use Rattle.bpg_bit_buffer.proofs.BitBufferLaws.{gathered-fits, gathered-bytes}
+use Rattle.bpg_ue7.specs.Ue7.{ue7Bytes}
+use Rattle.bpg_write_bits.specs.declared.BitBuffer.{BitBuffer}
+use Rattle.bpg_write_bits.specs.BitBuffer.{bufferBytes}
+use Rattle.bpg_write_bits.proofs.BitBufferLaws.{gathered-fits, gathered-bytes}
 use Rattle.bpg_format.specs.declared.record.Entry.{Entry}
 use Rattle.bpg_format.specs.declared.record.Header.{Header}
 use Rattle.bpg_format.specs.declared.record.Record.{Record}
@@ -103,7 +103,8 @@ module _ (r : Record) (source : List ℕ) (j : Judged r source) (a c : BitBuffer
   body-part : bodyPart alpha a c source (r .«data») ≡ headersAndData (contentOf r source)
   unfolding headersAndData contentOf select
   body-part =
-      ap₂ (λ (x y : List ℕ). x ++ (y ++ bytesIn source (r .«data»))) (header-part depth alpha (getD (r .headers) 0 zeroHeader) a (j .alpha-rules) ea) (header-part depth true (getD (r .headers) 1 zeroHeader) c (λ _. j .color-rules) ec)
+      ap₂ (λ (x y : List ℕ). x ++ (y ++ bytesIn source (r .«data»))) (header-part depth alpha (getD (r .headers) 0 zeroHeader) a (j .alpha-rules) ea)
+      (header-part depth true (getD (r .headers) 1 zeroHeader) c (λ _. j .color-rules) ec)
 
   pub body-measured : bodySize r (a .len .0) (c .len .0) ≡ length (headersAndData (contentOf r source))
   unfolding headersAndData contentOf select

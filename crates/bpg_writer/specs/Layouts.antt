@@ -5,7 +5,7 @@ use Prim.Native.Nat.{ℕ, _+_}
 use lib.ListN.{length}
 use Rattle.bpg_codec.specs.Select.{select}
 use Rattle.bpg_codec.specs.Bits.{bytesFor}
-use Rattle.bpg_numbers.specs.Ue7.{ue7Bytes}
+use Rattle.bpg_ue7.specs.Ue7.{ue7Bytes}
 use Rattle.bpg_format.specs.declared.record.Entry.{Entry}
 use Rattle.bpg_format.specs.declared.record.Record.{Record}
 use Rattle.bpg_format.specs.Records.{usedEntries}

@@ -6,9 +6,9 @@ use Prim.Native.Nat.{ℕ, _+_, _≤_}
 use lib.ListN.{length}
 use Rattle.bpg_codec.specs.Select.{select}
 use Rattle.bpg_codec.specs.Bits.{bytesFor}
-use Rattle.bpg_numbers.specs.Ue7.{ue7Bytes}
-use Rattle.bpg_bit_buffer.specs.declared.BitBuffer.{BitBuffer}
-use Rattle.bpg_bit_buffer.specs.BitBuffer.{gathered, bufferBytes}
+use Rattle.bpg_ue7.specs.Ue7.{ue7Bytes}
+use Rattle.bpg_write_bits.specs.declared.BitBuffer.{BitBuffer}
+use Rattle.bpg_write_bits.specs.BitBuffer.{gathered, bufferBytes}
 use Rattle.bpg_format.specs.declared.record.Range.{Range}
 use Rattle.bpg_format.specs.declared.record.Entry.{Entry}
 use Rattle.bpg_format.specs.declared.record.Header.{Header}

@@ -1,11 +1,11 @@
 // Writing the parts of a file, each at its place in a buffer that is known to hold it.
-use bpg_bit_buffer::BitBuffer;
 use bpg_bytes::BytePos;
 use bpg_bytes::buffer;
 use bpg_format::Entry;
 use bpg_format::Range;
 use bpg_format::Record;
-use bpg_numbers::ue7;
+use bpg_ue7::ue7;
+use bpg_write_bits::BitBuffer;
 ghost use mathlib.Core.Path.{_≡_};
 ghost use Prim.Native.Nat.{_+_, _≤_, _<_};
 ghost use lib.ListN.{length as count};
@@ -130,7 +130,7 @@ fn header(out: &mut [u8], at: BytePos, present: bool, bits: BitBuffer) -> BytePo
     }
     let size = (bits.len.0 + 7) / 8;
     let p = ue7::write(out, at, size as u32);
-    bpg_bit_buffer::write(out, p, bits)
+    bpg_write_bits::write(out, p, bits)
 }
 
 // The headers and the data.

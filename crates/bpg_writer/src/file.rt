@@ -2,15 +2,15 @@
 use crate::emit;
 use crate::layout;
 use crate::layout::Layout;
-use bpg_bit_buffer::BitBuffer;
-use bpg_check::judge;
-use bpg_encode::header;
 use bpg_format::Header;
 use bpg_format::MAX_FILE;
 use bpg_format::Record;
 use bpg_format::Written;
 use bpg_format::has_alpha;
 use bpg_format::written_refused;
+use bpg_write_bits::BitBuffer;
+use bpg_write_check::judge;
+use bpg_write_header::header;
 ghost use mathlib.Core.Path.{_≡_};
 ghost use mathlib.Core.Logic.{_↔_};
 ghost use Prim.Native.Nat.{_+_, _≤_};
@@ -28,7 +28,7 @@ fn encoded(present: bool, header: Header) -> BitBuffer
     ensures { λ r. ⌜ Encoded present header r ⌝ }
 {
     if !present {
-        return bpg_bit_buffer::empty();
+        return bpg_write_bits::empty();
     }
     header::encode(header)
 }

@@ -11,7 +11,7 @@ fn show_first(s: &[u8], n: usize) {
 
 fn show(file: &[u8]) {
     let mut line = [0u8; 160];
-    let n = bpg_summary::write(file, &mut line);
+    let n = bpg_show_file::write(file, &mut line);
     show_first(&line, n);
 }
 

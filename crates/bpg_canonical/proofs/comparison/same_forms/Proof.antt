@@ -10,7 +10,8 @@ use Rattle.bpg_canonical.proofs.comparison.same_forms.Tie as tie
 returns-3 : tie.Need-returns-3
 returns-3 c =
     let s = c .before .before .before .before .before .before .before .before .before in
-    c .equal .ensures ∙ both-written (s .args .one) (s .args .other) (s .args .first .now) (s .args .second .now) (s .args .one .count - 0) (s .args .other .count - 0) (search needs) (search needs) (omega arith) (omega arith)
+    c .equal .ensures ∙ both-written (s .args .one) (s .args .other) (s .args .first .now) (s .args .second .now) (s .args .one .count - 0) (s .args .other .count - 0)
+    (search needs) (search needs) (omega arith) (omega arith)
 
 pub same-forms-spec : {M : Type 1} → statement M
 same-forms-spec =

@@ -7,9 +7,9 @@ use native.Mathlib.Omega.{arith}
 use borrow.Author.Needs.{needs}
 use Rattle.bpg_codec.specs.Outcome.{error}
 use Rattle.bpg_codec.proofs.Answers.{refused-error, accepted-value}
-use Rattle.bpg_entries.specs.declared.entry.Step.{Step as Read}
-use Rattle.bpg_entries.specs.Entries.{stepAnswer, entryIn}
-use Rattle.bpg_entries.proofs.CheckedEntry.{entry-refuses}
+use Rattle.bpg_read_entries.specs.declared.entry.Step.{Step as Read}
+use Rattle.bpg_read_entries.specs.Entries.{stepAnswer, entryIn}
+use Rattle.bpg_read_entries.proofs.CheckedEntry.{entry-refuses}
 use Rattle.bpg_reader.specs.declared.parts.EntryAt.{EntryAt}
 use Rattle.bpg_cursor.specs.declared.step.Step.{Step}
 use Rattle.bpg_cursor.specs.Cursors.{stepOf, stepAt}

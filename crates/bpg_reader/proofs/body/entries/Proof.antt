@@ -3,7 +3,7 @@ use mathlib.Core.Path.{_≡_, _∙_}
 use lib.ListN.{take, drop}
 use Prim.Native.Nat.{_-_}
 use Rattle.bpg_format.specs.Read.{readBlock}
-use Rattle.bpg_entries.specs.Blocks.{blockAnswer, entriesIn}
+use Rattle.bpg_read_entries.specs.Blocks.{blockAnswer, entriesIn}
 use Rattle.bpg_reader.specs.Bodies.{headFields, headersStart}
 use Rattle.bpg_reader.proofs.EntryBlock.{block-too-large, block-empty, block-region}
 use borrow.Author.Needs.{needs}

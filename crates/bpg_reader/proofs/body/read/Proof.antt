@@ -13,9 +13,9 @@ use Rattle.bpg_format.specs.Limits.{maxFile}
 use Rattle.bpg_format.specs.Content.{hasAlpha, bitDepth}
 use Rattle.bpg_format.specs.Tests.{countsToEnd}
 use Rattle.bpg_format.specs.Read.{readHead}
-use Rattle.bpg_head.specs.declared.head.Head.{Head}
-use Rattle.bpg_head.proofs.HeadLaws.{head-facts}
-use Rattle.bpg_header.specs.BothHeaders.{headersAnswer, headersIn}
+use Rattle.bpg_read_head.specs.declared.head.Head.{Head}
+use Rattle.bpg_read_head.proofs.HeadLaws.{head-facts}
+use Rattle.bpg_read_headers.specs.BothHeaders.{headersAnswer, headersIn}
 use Rattle.bpg_reader.specs.Bodies.{headFields, headersStart}
 use Rattle.bpg_reader.proofs.BodyLaws.{entries-refused, block-inside, no-control, length-misses, headers-refused, next-inside, min-cb-small, body-read}
 use borrow.Author.Needs.{needs}

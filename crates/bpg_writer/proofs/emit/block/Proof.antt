@@ -6,7 +6,7 @@ use native.Mathlib.Omega.{arith}
 use lib.ListN.{length, length-append}
 use borrow.Author.Tests.{not-true, not-false}
 use Rattle.bpg_codec.proofs.Select.{select-true}
-use Rattle.bpg_numbers.specs.Ue7.{ue7Bytes}
+use Rattle.bpg_ue7.specs.Ue7.{ue7Bytes}
 use Rattle.bpg_writer.specs.Parts.{entriesPart}
 use Rattle.bpg_writer.proofs.PutLaws.{Put, put-end, put-absent, put-present, put-then, put-same}
 use borrow.Author.Needs.{needs}

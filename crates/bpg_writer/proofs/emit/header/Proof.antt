@@ -7,8 +7,8 @@ use lib.ListN.{length}
 use borrow.Author.Tests.{not-true, not-false}
 use Rattle.bpg_codec.specs.Bits.{bytesFor}
 use Rattle.bpg_codec.proofs.Select.{select-true}
-use Rattle.bpg_numbers.specs.Ue7.{ue7Bytes}
-use Rattle.bpg_bit_buffer.specs.BitBuffer.{bufferBytes}
+use Rattle.bpg_ue7.specs.Ue7.{ue7Bytes}
+use Rattle.bpg_write_bits.specs.BitBuffer.{bufferBytes}
 use Rattle.bpg_writer.proofs.PutLaws.{put-absent, put-present, put-then}
 use borrow.Author.Needs.{needs}
 use Rattle.bpg_writer.proofs.emit.header.Statement.{statement}

@@ -100,7 +100,8 @@ returns c =
     let h = b .before .before .before .before .before in
     let s = h .before .before .before .before .before in
     put-three (s .args .out .now) 0 (head-part s) (block-part s) (body-part s) _ _ _ _ _ _ (head-put h) (b .block .ensures)
-    (put-same (b .block .last .0) (b .block .result .0) _ _ _ _ (body-is a) (w .body .ensures)) (omega (arith, fits s, length-append (head-part s) (block-part s ++ body-part s), length-append (block-part s) (body-part s))) .0
+    (put-same (b .block .last .0) (b .block .result .0) _ _ _ _ (body-is a) (w .body .ensures))
+    (omega (arith, fits s, length-append (head-part s) (block-part s ++ body-part s), length-append (block-part s) (body-part s))) .0
 
 pub emit-file-spec : {M : Type 1} → statement M
 emit-file-spec =

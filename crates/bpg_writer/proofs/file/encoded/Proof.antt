@@ -4,8 +4,8 @@ use mathlib.Core.Bool.{Bool, false, true≢false}
 use native.Mathlib.Omega.{arith}
 use borrow.Author.Needs.{needs}
 use borrow.Author.Tests.{not-true}
-use Rattle.bpg_bit_buffer.specs.declared.BitBuffer.{BitBuffer}
-use Rattle.bpg_bit_buffer.proofs.BitBufferLaws.{gathered-most}
+use Rattle.bpg_write_bits.specs.declared.BitBuffer.{BitBuffer}
+use Rattle.bpg_write_bits.proofs.BitBufferLaws.{gathered-most}
 use Rattle.bpg_format.specs.declared.record.Header.{Header}
 use Rattle.bpg_format.specs.Syntax.{headerBits}
 use Rattle.bpg_writer.specs.Parts.{Encoded}

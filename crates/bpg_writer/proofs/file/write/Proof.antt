@@ -16,8 +16,8 @@ use Rattle.bpg_format.specs.Syntax.{fileOf}
 use Rattle.bpg_format.specs.Records.{usedEntries, contentOf}
 use Rattle.bpg_format.specs.Write.{checkRecord}
 use Rattle.bpg_format.proofs.Typed.{headers-count, typed}
-use Rattle.bpg_check.proofs.ConsistentLaws.{header-at}
-use Rattle.bpg_check.proofs.Judgement.{check-passes}
+use Rattle.bpg_write_check.proofs.ConsistentLaws.{header-at}
+use Rattle.bpg_write_check.proofs.Judgement.{check-passes}
 use Rattle.bpg_writer.specs.declared.layout.Layout.{Layout}
 use Rattle.bpg_writer.specs.Parts.{Encoded, entriesPart, filePart}
 use Rattle.bpg_writer.proofs.JudgedLaws.{Judged, judged}

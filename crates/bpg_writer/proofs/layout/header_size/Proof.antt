@@ -4,7 +4,7 @@ use Prim.Native.Nat.{ℕ, _+_, _≤_}
 use native.Mathlib.Omega.{arith}
 use Rattle.bpg_codec.specs.Bits.{bytesFor}
 use Rattle.bpg_codec.proofs.Select.{select-true, select-false}
-use Rattle.bpg_numbers.proofs.Ue7Laws.{size-most}
+use Rattle.bpg_ue7.proofs.Ue7Laws.{size-most}
 use borrow.Author.Needs.{needs}
 use Rattle.bpg_writer.proofs.layout.header_size.Statement.{statement}
 use Rattle.bpg_writer.proofs.layout.header_size.Tie as tie

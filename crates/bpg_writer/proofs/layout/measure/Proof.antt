@@ -1,7 +1,7 @@
 -- `layout::measure` meets its contract.
 use Prim.Native.Nat.{_+_, _^_, _≤_, _<_}
 use native.Mathlib.Omega.{arith}
-use Rattle.bpg_numbers.proofs.Ue7Laws.{size-most}
+use Rattle.bpg_ue7.proofs.Ue7Laws.{size-most}
 use Rattle.bpg_writer.proofs.LayoutLaws.{measured}
 use borrow.Author.Needs.{needs}
 use Rattle.bpg_writer.proofs.layout.measure.Statement.{statement}

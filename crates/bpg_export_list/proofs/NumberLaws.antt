@@ -1,0 +1,161 @@
+-- A record's list in parts, lists compared, and a list's entries.
+use mathlib.Core.Path.{_≡_, refl, sym, ap, ap₂, _∙_}
+use mathlib.Core.Bool.{Bool, true, false, _&&_, and-false, and-assoc}
+use mathlib.Core.List.{List, [], _∷_, _++_, map, append-assoc, append-nil}
+use Prim.Native.Nat.{ℕ, zero, suc, _+_, _*_, _≤_, _<_}
+use native.Mathlib.Numerals.{add-one}
+use native.Mathlib.Omega.{arith}
+use lib.Dec.{eqb}
+use lib.ListN.{length, take, drop, getD, length-append, length-map, drop-of-length-le}
+use lib.Seq.{length-take-le, take-all, drop-length, take-suc, drop-cons}
+use mir.Val.{boolByte}
+use Rattle.bpg_format.specs.Limits.{maxEntries}
+use Rattle.bpg_codec.specs.Bits.{bit}
+use Rattle.bpg_codec.specs.Buffer.{written}
+use Rattle.bpg_codec.proofs.Lists.{by-length}
+use Rattle.bpg_codec.proofs.Buffer.{length-splice, stored, written-written}
+use Rattle.bpg_format.specs.declared.record.Entry.{Entry}
+use Rattle.bpg_format.specs.declared.record.Header.{Header}
+use Rattle.bpg_format.specs.declared.record.Record.{Record}
+use Rattle.bpg_export_list.specs.Numbers.{loopStart, alphaStart, colorStart, dataStart, recordLength, headNumbers, rangeNumbers, entryNumbers, entriesNumbers}
+use Rattle.bpg_export_list.specs.Numbers.{animationNumbers, headerNumbers, headersNumbers, numbersOf, entryAt, listEntries, beginsWith}
+
+-- a flag as a number
+pub flag-number : (t : Bool) → boolByte t ≡ bit t
+flag-number true = refl
+flag-number false = refl
+
+-- ---- the nine range flags
+
+-- each element as the code reads it
+abbrev nineOf : List Bool → List ℕ
+nineOf l =
+    boolByte (getD l 0 false) ∷ boolByte (getD l 1 false) ∷ boolByte (getD l 2 false) ∷ boolByte (getD l 3 false) ∷ boolByte (getD l 4 false)
+    ∷ boolByte (getD l 5 false) ∷ boolByte (getD l 6 false) ∷ boolByte (getD l 7 false) ∷ boolByte (getD l 8 false) ∷ []
+
+pub nine-flags : (l : List Bool) → length l ≡ 9 → nineOf l ≡ map bit l
+nine-flags = by-length 9 (λ l. nineOf l ≡ map bit l) (λ a b c d e f g h i. simp flag-number)
+
+pub header-length : (h : Header) → length (h .«range_flags») ≡ 9 → length (headerNumbers h) ≡ 25
+unfolding headerNumbers
+header-length h n = omega (arith, length-map (h .«range_flags») bit)
+
+-- ---- the entries
+
+entries-append : (a b : List Entry) → entriesNumbers (a ++ b) ≡ entriesNumbers a ++ entriesNumbers b
+unfolding entriesNumbers
+entries-append [] b = refl
+entries-append (e ∷ a) b = ap (λ (l : List ℕ). e .tag ∷ e .payload .start ∷ e .payload .length ∷ l) (entries-append a b)
+
+pub entries-length : (es : List Entry) → length (entriesNumbers es) ≡ 3 * length es
+unfolding entriesNumbers
+entries-length [] = refl
+entries-length (e ∷ es) = omega (arith, entries-length es)
+
+entries-next : (es : List Entry) (k : ℕ) (d : Entry) → k < length es
+    → entriesNumbers (take (k + 1) es) ≡ entriesNumbers (take k es) ++ entryNumbers (getD es k d)
+unfolding entriesNumbers
+entries-next es k d h = rw (add-one, take-suc es k d) (entries-append (take k es) (getD es k d ∷ []))
+
+-- ---- the headers
+
+two-headers : (hs : List Header) (d : Header) → length hs ≡ 2 → headersNumbers hs ≡ headerNumbers (getD hs 0 d) ++ headerNumbers (getD hs 1 d)
+unfolding headersNumbers
+two-headers hs d = by-length 2 (λ l. headersNumbers l ≡ headerNumbers (getD l 0 d) ++ headerNumbers (getD l 1 d)) (λ a b. simp append-nil) hs
+
+-- ---- parts written one after the other are one
+
+module _ (out : List ℕ) where
+  pub written-length : (at : ℕ) (l : List ℕ) → at + length l ≤ length out → length (written out at l) ≡ length out
+  written-length at l h = ap length (sym (stored out at l h .0)) ∙ length-splice out at l h
+
+  -- numbers are written from `at` to n, and then these
+  pub written-next : (at n : ℕ) (l m o p : List ℕ) → at + length l ≡ n → n + length m ≤ length out → o ≡ written out at l → p ≡ written o n m
+      → p ≡ written out at (l ++ m)
+  written-next at n l m o p e h q r = r ∙ ap₂ (λ (x : List ℕ) (j : ℕ). written x j m) q (sym e) ∙ written-written out at l m (omega arith)
+
+  -- one more entry
+  module _ (es : List Entry) (sixteen : length es ≡ maxEntries) (long : loopStart ≤ length out) where
+    pub first-length : (k : ℕ) → k ≤ maxEntries → length (entriesNumbers (take k es)) ≡ 3 * k
+    first-length k h = entries-length (take k es) ∙ ap (λ (n : ℕ). 3 * n) (length-take-le k es (omega arith))
+
+    pub entry-written : (k : ℕ) (d : Entry) (o p : List ℕ) → k < maxEntries → o ≡ written out 12 (entriesNumbers (take k es)) → p ≡ written o (12 + 3 * k) (entryNumbers (getD es k d))
+        → p ≡ written out 12 (entriesNumbers (take (k + 1) es))
+    entry-written k d o p h q r =
+        let e : 12 + length (entriesNumbers (take k es)) ≡ 12 + 3 * k = ap (λ (n : ℕ). 12 + n) (first-length k (omega arith)) in
+        written-next 12 (12 + 3 * k) (entriesNumbers (take k es)) (entryNumbers (getD es k d)) o p e (omega arith) q r
+        ∙ ap (written out 12) (sym (entries-next es k d (omega arith)))
+
+    pub entries-written : (k : ℕ) (o : List ℕ) → k ≡ maxEntries → o ≡ written out 12 (entriesNumbers (take k es))
+        → (o ≡ written out 12 (entriesNumbers es)) × (length (entriesNumbers es) ≡ 3 * maxEntries)
+    entries-written k o e q =
+        (q ∙ ap (λ (l : List Entry). written out 12 (entriesNumbers l)) (take-all k es (omega arith)), omega (arith, entries-length es))
+
+  -- a list that fills the buffer
+  pub written-whole : (l : List ℕ) → length l ≡ length out → written out 0 l ≡ l
+  written-whole l e =
+      let n : 0 + length l ≡ length out = omega arith in
+      sym (stored out 0 l (omega arith) .0) ∙ ap (λ (m : List ℕ). l ++ m) (ap (λ (k : ℕ). drop k out) n ∙ drop-length out) ∙ append-nil l
+
+in-order : (h e l a b d : List ℕ) → ((((h ++ e) ++ l) ++ a) ++ b) ++ d ≡ h ++ (e ++ (l ++ ((a ++ b) ++ d)))
+in-order h e l a b d = simp append-assoc
+
+-- the parts of a record
+module _ (out : List ℕ) (r : Record) (d : Header) (long : recordLength ≤ length out) (two : length (r .headers) ≡ 2) (sixteen : length (entriesNumbers (r .entries)) ≡ 3 * maxEntries) where
+  abbrev alpha : List ℕ
+  alpha = headerNumbers (getD (r .headers) 0 d)
+
+  abbrev color : List ℕ
+  color = headerNumbers (getD (r .headers) 1 d)
+
+  parts-are : ((((headNumbers r ++ entriesNumbers (r .entries)) ++ animationNumbers r) ++ alpha) ++ color) ++ rangeNumbers (r .«data») ≡ numbersOf r
+  unfolding numbersOf
+  parts-are =
+      in-order (headNumbers r) (entriesNumbers (r .entries)) (animationNumbers r) alpha color (rangeNumbers (r .«data»))
+      ∙ ap (λ (l : List ℕ). headNumbers r ++ (entriesNumbers (r .entries) ++ (animationNumbers r ++ (l ++ rangeNumbers (r .«data»))))) (sym (two-headers (r .headers) d two))
+
+  pub record-written : (o1 o2 o3 o4 o5 o6 : List ℕ) → length alpha ≡ 25 → length color ≡ 25
+      → o1 ≡ written out 0 (headNumbers r) → o2 ≡ written o1 12 (entriesNumbers (r .entries)) → o3 ≡ written o2 loopStart (animationNumbers r)
+      → o4 ≡ written o3 alphaStart alpha → o5 ≡ written o4 colorStart color → o6 ≡ written o5 dataStart (rangeNumbers (r .«data»))
+      → (o6 ≡ written out 0 (numbersOf r)) × (length (numbersOf r) ≡ recordLength)
+  record-written o1 o2 o3 o4 o5 o6 m n p1 p2 p3 p4 p5 p6 =
+      let a = headNumbers r in
+      let b = a ++ entriesNumbers (r .entries) in
+      let c = b ++ animationNumbers r in
+      let e = c ++ alpha in
+      let f = e ++ color in
+      let ends : (length b ≡ loopStart) × (length c ≡ alphaStart) × (length e ≡ colorStart) × (length f ≡ dataStart) = simp length-append (omega arith) in
+      let q2 = written-next out 0 12 a (entriesNumbers (r .entries)) o1 o2 refl (omega arith) p1 p2 in
+      let q3 = written-next out 0 loopStart b (animationNumbers r) o2 o3 (omega arith) (omega arith) q2 p3 in
+      let q4 = written-next out 0 alphaStart c alpha o3 o4 (omega arith) (omega arith) q3 p4 in
+      let q5 = written-next out 0 colorStart e color o4 o5 (omega arith) (omega arith) q4 p5 in
+      let q6 = written-next out 0 dataStart f (rangeNumbers (r .«data»)) o5 o6 (omega arith) (omega arith) q5 p6 in
+      (q6 ∙ ap (written out 0) parts-are, ap length (sym parts-are) ∙ length-append f (rangeNumbers (r .«data»)) ∙ omega arith)
+
+-- ---- lists compared
+
+pub begins-short : (a l : List ℕ) → length l < length a → beginsWith a l ≡ false
+unfolding beginsWith
+begins-short [] l h = absurd (omega arith)
+begins-short (x ∷ a) [] h = refl
+begins-short (x ∷ a) (y ∷ l) h = rw (begins-short a l (omega arith)) (and-false (eqb x y))
+
+module _ (a l : List ℕ) (k : ℕ) where
+  pub begins-end : (s : Bool) → length a ≤ k → (s && beginsWith (drop k a) (drop k l)) ≡ s
+  unfolding beginsWith
+  begins-end true h = rw (drop-of-length-le a h)
+  begins-end false h = refl
+
+  pub begins-next : (s : Bool) → k < length a → k < length l
+      → (s && beginsWith (drop k a) (drop k l)) ≡ ((s && eqb (getD a k 0) (getD l k 0)) && beginsWith (drop (k + 1) a) (drop (k + 1) l))
+  unfolding beginsWith
+  begins-next s h j = rw (add-one, drop-cons a k 0, drop-cons l k 0) (sym (and-assoc s (eqb (getD a k 0) (getD l k 0)) (beginsWith (drop (suc k) a) (drop (suc k) l))))
+
+-- ---- the entries of a list
+
+pub entries-more : (l : List ℕ) (at k : ℕ) → listEntries l at (suc k) ≡ listEntries l at k ++ (entryAt l (at + 3 * k) ∷ [])
+unfolding listEntries
+entries-more l at zero = ap (λ (n : ℕ). entryAt l n ∷ []) (omega arith)
+entries-more l at (suc k) =
+    let n : at + 3 + 3 * k ≡ at + 3 * suc k = omega arith in
+    ap (λ (es : List Entry). entryAt l at ∷ es) (entries-more l (at + 3) k ∙ ap (λ (m : ℕ). listEntries l (at + 3) k ++ (entryAt l m ∷ [])) n)

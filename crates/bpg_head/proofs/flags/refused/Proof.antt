@@ -1,7 +1,0 @@
--- `flags::refused` meets its contract.
-use borrow.Author.Needs.{needs}
-use Rattle.bpg_head.proofs.flags.refused.Statement.{statement}
-use Rattle.bpg_head.proofs.flags.refused.Tie as tie
-
-pub refused-spec : {M : Type 1} → statement M
-refused-spec = tie.close (tie.spec (λ c κs. search needs) (λ c. rw (c .zero-flags .ensures)))

@@ -1,0 +1,40 @@
+-- `content::status` meets its contract.
+use Rattle.bpg_write_check.proofs.ContentLaws.{depth-fits, picture-stops, entries-stop, headers-decide}
+use mathlib.Core.Path.{sym, _∙_}
+use borrow.Author.Needs.{needs}
+use Rattle.bpg_write_check.proofs.content.status.Statement.{statement}
+use Rattle.bpg_write_check.proofs.content.status.Tie as tie
+
+returns : tie.Need-returns
+returns c =
+    let p = c .before in
+    let source = p .before .before .args .source .now in
+    picture-stops _ source _ (p .picture-status .ensures source) (c .if1 .taken)
+
+returns-2 : tie.Need-returns-2
+returns-2 c =
+    let e = c .before .before in
+    let p = e .before in
+    let source = p .before .before .args .source .now in
+    entries-stop _ source _ (p .picture-status .ensures source) (e .if1 .left) _ (c .before .status .ensures) (c .if2 .taken)
+
+headers-status-requires : tie.Need-headers-status-requires
+headers-status-requires c κs =
+    let e = c .before .before in
+    let p = e .before in
+    let s = p .before .before in
+    (s .pre .0, depth-fits _ (s .args .source .now) (sym (p .picture-status .ensures (s .args .source .now)) ∙ e .if1 .left))
+
+returns-3 : tie.Need-returns-3
+returns-3 c =
+    let t = c .before in
+    let e = t .before .before in
+    let p = e .before in
+    let source = p .before .before .args .source .now in
+    headers-decide _ source _ (p .picture-status .ensures source) (e .if1 .left) _ (t .before .status .ensures) _ (t .if2 .left) (c .headers-status .ensures source)
+
+pub status-spec : {M : Type 1} → statement M
+status-spec =
+    tie.close
+    (tie.spec
+    (λ c κs. search needs) returns (λ c κs. search needs) returns-2 headers-status-requires returns-3)
