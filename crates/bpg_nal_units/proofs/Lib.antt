@@ -1,0 +1,5 @@
+-- The laws of the cut.
+pub mod Cases
+pub mod CodeLaws
+pub mod TrimLaws
+pub mod UnitLaws
