@@ -1,10 +1,13 @@
 -- The zeros at the end of bytes.
 use mathlib.Core.Path.{_≡_, refl, ap, _∙_}
+use mathlib.Core.Bool.{false}
 use mathlib.Core.List.{List, [], _∷_, _++_}
 use Prim.Native.Nat.{ℕ, zero, suc, _≤_}
 use native.Mathlib.Omega.{arith}
 use lib.ListN.{length, take, replicate, length-take}
+use borrow.Author.Tests.{ne-eqb}
 use Rattle.bpg_nal_units.specs.Units.{trimByte, trimZeros}
+use Rattle.bpg_nal_units.specs.Endings.{endsZero}
 
 pub trim-none : trimZeros [] ≡ []
 unfolding trimZeros
@@ -58,3 +61,16 @@ trim-front (b ∷ l) = byte-front b (trimZeros l) l (trim-front l)
 
 pub trim-most : (l : List ℕ) → length (trimZeros l) ≤ length l
 trim-most l = let e = ap length (trim-front l) ∙ length-take (length (trimZeros l)) l in omega arith
+
+byte-ends : (b : ℕ) (s : List ℕ) → endsZero s ≡ false → endsZero (trimByte b s) ≡ false
+unfolding trimByte endsZero
+byte-ends zero [] e = refl
+byte-ends (suc b) [] e = ne-eqb (suc b) 0 (λ z. omega arith)
+byte-ends zero (x ∷ s) e = e
+byte-ends (suc b) (x ∷ s) e = e
+
+-- and it ends in no zero
+pub trim-ends : (l : List ℕ) → endsZero (trimZeros l) ≡ false
+unfolding trimZeros endsZero
+trim-ends [] = refl
+trim-ends (b ∷ l) = byte-ends b (trimZeros l) (trim-ends l)

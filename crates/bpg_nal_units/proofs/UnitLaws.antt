@@ -1,7 +1,7 @@
 -- The units: those of what is left, and a unit as a part of its region.
 use mathlib.Core.Path.{_≡_, refl, sym, ap, _∙_}
 use mathlib.Core.List.{List, [], _∷_}
-use Prim.Native.Nat.{ℕ, zero, suc, min, _+_, _-_, _≤_, _<_}
+use Prim.Native.Nat.{ℕ, zero, suc, _+_, _-_, _≤_, _<_}
 use native.Mathlib.Nat.{add-assoc}
 use native.Mathlib.Omega.{arith}
 use lib.Dec.{ltb}
@@ -9,10 +9,12 @@ use lib.ListN.{length, take, drop, length-take, length-drop}
 use lib.Seq.{drop-drop, take-take}
 use borrow.Author.Tests.{lt-ltb, le-ltb}
 use Rattle.bpg_codec.specs.Select.{select}
+use Rattle.bpg_codec.specs.Lawful.{All}
 use Rattle.bpg_codec.proofs.Select.{select-true, select-false}
 use Rattle.bpg_codec.proofs.Lists.{either-way, take-drop}
-use Rattle.bpg_nal_units.specs.Units.{codeOffset, trimZeros, Nal, unitsUpTo, units, codeFrom, bytesAt}
-use Rattle.bpg_nal_units.proofs.CodeLaws.{code-most, code-room}
+use Rattle.bpg_nal_units.specs.Units.{startsCode, codeOffset, trimZeros, Nal, unitsUpTo, units, codeFrom, bytesAt}
+use Rattle.bpg_nal_units.proofs.SearchLaws.{search-most}
+use Rattle.bpg_nal_units.proofs.CodeLaws.{code-room}
 use Rattle.bpg_nal_units.proofs.TrimLaws.{trim-front, trim-most}
 
 abbrev pub firstUnit : ℕ → List ℕ → Nal
@@ -42,6 +44,23 @@ module _ (p : ℕ) (l : List ℕ) where
       (select-true _ _ (lt-ltb _ _ h)
       ∙ enough (length l) (suc (length rest)) (p + codeOffset l + 3) rest (rw length-drop (omega arith)) (omega arith))
 
+-- what holds of every trimmed list holds of every unit
+module _ (P : Nal → Type 0) (each : (p : ℕ) (v : List ℕ) → P (record { start = p; bytes = trimZeros v })) where
+  all-up-to : (k p : ℕ) (l : List ℕ) → All P (unitsUpTo k p l)
+  unfolding unitsUpTo
+  all-up-to zero p l = tt
+  all-up-to (suc k) p l = (
+    each p (take (codeOffset l) l),
+    either-way (length l) (codeOffset l) (λ h. rw (select-false {X = List Nal} (rest k p l) [] (le-ltb _ _ h)) tt)
+        (λ h. rw (select-true {X = List Nal} (rest k p l) [] (lt-ltb _ _ h)) (all-up-to k (p + codeOffset l + 3) (drop (codeOffset l + 3) l))),
+  )
+    where
+      rest : (k p : ℕ) → List ℕ → List Nal
+      rest k p l = unitsUpTo k (p + codeOffset l + 3) (drop (codeOffset l + 3) l)
+
+  pub every-unit : (p : ℕ) (l : List ℕ) → All P (units p l)
+  every-unit p l = all-up-to (suc (length l)) p l
+
 -- ---- by offsets in a region
 
 abbrev pub unitAt : List ℕ → ℕ → Nal
@@ -49,7 +68,7 @@ unitAt d i = record { start = i; bytes = bytesAt d i }
 
 module _ (d : List ℕ) (i : ℕ) (h : i ≤ length d) where
   cut-at : codeFrom d i ≡ i + codeOffset (drop i d)
-  cut-at = let k = code-most (drop i d) in omega (arith, length-drop i d)
+  cut-at = let k = search-most startsCode (drop i d) in omega (arith, length-drop i d)
 
   first-unit : firstUnit i (drop i d) ≡ unitAt d i
   first-unit = rw (cut-at, take-drop)

@@ -2,21 +2,20 @@
 -- the end of the data belong to no unit.
 use mathlib.Core.Bool.{Bool, _&&_}
 use mathlib.Core.List.{List, [], _∷_}
-use Prim.Native.Nat.{ℕ, zero, suc, min, _+_}
+use Prim.Native.Nat.{ℕ, zero, suc, _+_}
 use lib.Dec.{eqb, ltb}
 use lib.ListN.{length, take, drop, getD}
-use Rattle.bpg_bytes.specs.declared.position.BytePos.{BytePos}
 use Rattle.bpg_codec.specs.Select.{select}
 use Rattle.bpg_nal_units.specs.declared.cut.Cut.{Cut}
+use Rattle.bpg_nal_units.specs.Search.{offsetOf, offsetFrom}
 
 -- the bytes begin with the start code 00 00 01 (fewer than three have no third byte that is 1)
 abbrev pub startsCode : List ℕ → Bool
 startsCode l = eqb (getD l 2 0) 1 && (eqb (getD l 1 0) 0 && eqb (getD l 0 0) 0)
 
 -- how many bytes stand before the first start code; all of them where there is none
-unfoldable pub codeOffset : List ℕ → ℕ
-codeOffset [] = 0
-codeOffset (b ∷ l) = select (startsCode (b ∷ l)) 0 (suc (codeOffset l))
+abbrev pub codeOffset : List ℕ → ℕ
+codeOffset l = offsetOf startsCode l
 
 -- a byte before bytes that were trimmed; a zero with none after it goes too
 unfoldable pub trimByte : ℕ → List ℕ → List ℕ
@@ -50,7 +49,7 @@ units p l = unitsUpTo (suc (length l)) p l
 
 -- the offset of the first start code at or after i; the region's end where there is none
 abbrev pub codeFrom : List ℕ → (i : ℕ) → ℕ
-codeFrom region i = min (i + codeOffset (drop i region)) (length region)
+codeFrom region i = offsetFrom startsCode region i
 
 -- the bytes of the unit that starts at i
 abbrev pub bytesAt : List ℕ → (i : ℕ) → List ℕ
