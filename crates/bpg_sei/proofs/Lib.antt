@@ -1,0 +1,4 @@
+-- The laws of SEI messages.
+pub mod StepLaws
+pub mod MessageLaws
+pub mod AnswerLaws
