@@ -25,7 +25,7 @@ unfoldable pub listOutcome : (capacity : ℕ) → (numbers source : List ℕ) �
 listOutcome capacity numbers source =
     guard (leb recordLength (length numbers)) 20 0 >>= λ _.
     guard (numbersFit numbers) 19 0 >>= λ _.
-    writeOutcome capacity (recordOf numbers) source
+    writeOutcome capacity (listRecord numbers) source
 
 unfoldable pub writeAnswer : (numbers source out : List ℕ) → Written
 writeAnswer numbers source out = writtenAnswer (listOutcome (length out) numbers source)
