@@ -1,0 +1,54 @@
+-- What the calls answer: the reader's refusals, those of the units, 25 at the first data byte, then 20 at 0 (request 1/13).
+use mathlib.Core.Bool.{Bool, _||_}
+use mathlib.Core.List.{List, []}
+use Prim.Native.Nat.{ℕ}
+use lib.Dec.{eqb, leb}
+use lib.ListN.{length}
+use Rattle.bpg_codec.specs.Outcome.{Outcome, ok, error, _>>=_, guard}
+use Rattle.bpg_format.specs.declared.record.Record.{Record}
+use Rattle.bpg_format.specs.Records.{readFile}
+use Rattle.bpg_format.specs.Parts.{dataOf}
+use Rattle.bpg_format.specs.Write.{writtenBuffer}
+use Rattle.bpg_nal_units.specs.Units.{Nal, units}
+use Rattle.bpg_frames.specs.declared.count.Frames.{Frames}
+use Rattle.bpg_frames.specs.Frames.{nothing, framesFrom, enough}
+
+module _ (f : List ℕ) where
+  abbrev pub recordIn : Record
+  recordIn = readFile f .«record»
+
+  -- the first data byte
+  abbrev pub dataAt : ℕ
+  dataAt = recordIn .«data» .start
+
+  abbrev pub alphaIn : Bool
+  alphaIn = recordIn .«alpha1_flag» || recordIn .«alpha2_flag»
+
+  abbrev pub unitsIn : List Nal
+  unitsIn = units dataAt (dataOf f)
+
+  -- how long each frame of a file is shown
+  unfoldable pub framesOf : Outcome (List ℕ)
+  framesOf =
+      guard (eqb (readFile f .status) 0) (readFile f .status) (readFile f .offset) >>= λ _.
+      framesFrom alphaIn unitsIn nothing [] >>= λ ds.
+      guard (enough (recordIn .«animation_flag») (length ds)) 25 dataAt >>= λ _.
+      ok ds
+
+abbrev pub framesAnswer : Outcome (List ℕ) → Frames
+framesAnswer (ok ds) = record { status = 0; offset = 0; count = length ds }
+framesAnswer (error s o) = record { status = s; offset = o; count = 0 }
+
+unfoldable pub frameCount : List ℕ → Frames
+frameCount f = framesAnswer (framesOf f)
+
+-- "20 the lent list is shorter than the count"
+abbrev pub listOutcome : (capacity : ℕ) → List ℕ → Outcome (List ℕ)
+listOutcome capacity f = framesOf f >>= λ ds. guard (leb (length ds) capacity) 20 0 >>= λ _. ok ds
+
+unfoldable pub framesCall : (f list : List ℕ) → Frames
+framesCall f list = framesAnswer (listOutcome (length list) f)
+
+-- the list afterwards
+unfoldable pub framesList : (f list : List ℕ) → List ℕ
+framesList f list = writtenBuffer (listOutcome (length list) f) list

@@ -1,0 +1,49 @@
+// Judging a unit: its header, the emulation rules, its kind, and the durations that it sets.
+use crate::kind::Verdict;
+use crate::kind::refused_by;
+use crate::kind::verdict_on;
+use bpg_nal_units::header;
+ghost use mathlib.Core.Path.{_≡_};
+ghost use Rattle.bpg_frames.specs.Units.{unitSays};
+ghost use Rattle.bpg_frames.specs.Frames.{judged};
+ghost use Rattle.bpg_frames.specs.Answers.{verdictOf, settlesBy};
+
+fn says(unit: &[u8], alpha: bool) -> Verdict
+    ensures { λ r. ⌜ r ≡ verdictOf (unitSays alpha (now (unit .entry))) ⌝ }
+{
+    if unit.len() < 2 {
+        return refused_by(22);
+    }
+    let header = header(unit[0], unit[1]);
+    if header.forbidden_zero_bit {
+        return refused_by(22);
+    }
+    if header.nuh_temporal_id_plus1 == 0 {
+        return refused_by(22);
+    }
+    let checked = bpg_nal_escape::check(unit);
+    if !checked.kept {
+        return refused_by(22);
+    }
+    verdict_on(unit, alpha)
+}
+
+// Refusal 24: a duration is not 0, and none waits when it is set. `pending` waits before the unit, 0 for none.
+fn settles(pending: u16, count: usize, duration: u16) -> bool
+    ensures { λ r. ⌜ r ≡ settlesBy pending count duration ⌝ }
+{
+    (count == 0) | ((count == 1) & ((duration != 0) & (pending == 0)))
+}
+
+pub(crate) fn judge(unit: &[u8], alpha: bool, pending: u16) -> Verdict
+    ensures { λ r. ⌜ r ≡ verdictOf (judged alpha pending (now (unit .entry))) ⌝ }
+{
+    let said = says(unit, alpha);
+    if said.status != 0 {
+        return said;
+    }
+    if settles(pending, said.count, said.duration) {
+        return said;
+    }
+    refused_by(24)
+}

@@ -1,0 +1,49 @@
+// The second pass over data that was judged: the durations are stored.
+use crate::kind::verdict_on;
+use crate::wait::nothing_waits;
+use crate::wait::shown;
+use crate::wait::wait_after;
+use bpg_bytes::BytePos;
+use bpg_nal_units::cut_at;
+ghost use mathlib.Core.Path.{_≡_};
+ghost use mathlib.Core.Bool.{true};
+ghost use mathlib.Core.List.{_++_};
+ghost use Prim.Native.Nat.{_+_, _<_};
+ghost use lib.ListN.{length, drop, set};
+ghost use Rattle.bpg_codec.specs.Select.{select};
+ghost use Rattle.bpg_frames.specs.Frames.{lasting};
+ghost use Rattle.bpg_frames.specs.Answers.{Storable, durationsAt};
+
+// Stores the duration of a frame that starts, and answers where the next one goes.
+fn put(durations: &mut [u16], at: usize, starts: bool, pending: u16) -> usize
+    requires { ⌜ (starts ≡ true → at < length (now durations)) ⌝ }
+    ensures { λ r. ⌜ r ≡ select starts (at + 1) at ⌝ }
+    ensures { λ _. ⌜ now (durations .exit) ≡ select starts (set (now (durations .entry)) at (lasting pending)) (now (durations .entry)) ⌝ }
+{
+    if !starts {
+        return at;
+    }
+    durations[at] = shown(pending);
+    at + 1
+}
+
+// The durations of the frames of data whose units were all judged, from the start of `durations`, which has room for them.
+pub(crate) fn store_durations(file: &[u8], data: BytePos, alpha: bool, durations: &mut [u16])
+    requires { ⌜ Storable (now file) («data» .0) alpha (now durations) ⌝ }
+    ensures { λ _. ⌜ now (durations .exit) ≡ durationsAt (now (file .entry)) («data» .0) alpha ++ drop (length (durationsAt (now (file .entry)) («data» .0) alpha)) (now (durations .entry)) ⌝ }
+{
+    let mut found: usize = 0;
+    let mut start = data.0;
+    let mut wait = nothing_waits();
+    loop {
+        let cut = cut_at(file, BytePos(start));
+        let past = cut.end.0;
+        let verdict = verdict_on(&file[start..past], alpha);
+        found = put(durations, found, verdict.starts, wait.duration);
+        wait = wait_after(wait, verdict, BytePos(start));
+        if file.len() <= cut.code.0 {
+            return;
+        }
+        start = cut.code.0 + 3;
+    }
+}

@@ -1,0 +1,9 @@
+-- The laws of emulation prevention.
+pub mod PatternLaws
+pub mod WalkLaws
+pub mod StretchLaws
+pub mod OffsetLaws
+pub mod EndingLaws
+pub mod BufferLaws
+pub mod CallLaws
+pub mod RoundTrips

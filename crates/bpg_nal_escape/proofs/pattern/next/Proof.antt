@@ -1,0 +1,56 @@
+-- `pattern::next` meets its contract: looking on from `i` gives what looking from the start does.
+use Prim.Native.Nat.{_-_}
+use mathlib.Core.Path.{_≡_, refl, sym, _∙_}
+use native.Mathlib.Omega.{arith}
+use lib.ListN.{length}
+use Rattle.bpg_nal_units.specs.Search.{offsetFrom}
+use Rattle.bpg_nal_escape.specs.Emulation.{startsPattern}
+use Rattle.bpg_nal_escape.proofs.PatternLaws.{past-end, high-third, other-second, other-first, found-at}
+use Rattle.bpg_nal_escape.proofs.pattern.next.Statement.{statement}
+use Rattle.bpg_nal_escape.proofs.pattern.next.Tie as tie
+
+abbrev Inv-loop : tie.InvT-loop
+Inv-loop bytes end last i₀ i = offsetFrom startsPattern bytes i₀ ≡ offsetFrom startsPattern bytes i
+
+abbrev μ-loop : tie.MeasureT-loop
+μ-loop bytes end last i₀ i = length bytes - i
+
+loop-again : tie.Need-loop-again Inv-loop μ-loop
+loop-again c = c .before .before .before .loop .inv ∙ high-third _ _ (omega arith) (c .if2 .taken)
+
+loop-again-2 : tie.Need-loop-again-2 Inv-loop μ-loop
+loop-again-2 c = c .before .before .before .before .before .loop .inv ∙ other-second _ _ (omega arith) (c .if3 .taken)
+
+loop-again-3 : tie.Need-loop-again-3 Inv-loop μ-loop
+loop-again-3 c = c .before .before .before .before .before .before .before .loop .inv ∙ other-first _ _ (omega arith) (c .if4 .taken)
+
+returns-2 : tie.Need-returns-2 Inv-loop μ-loop
+returns-2 c =
+    let b = c .before .before in
+    found-at _ _ (omega arith) (b .before .before .if2 .left) (b .if3 .left) (c .if4 .left) ∙ sym (b .before .before .before .before .before .loop .inv)
+
+pub next-spec : {M : Type 1} → statement M
+next-spec =
+    tie.close
+    (tie.spec
+    Inv-loop
+    μ-loop
+    (λ c. past-end _ _ (omega arith))
+    (λ c. omega arith)
+    (λ c. refl)
+    (λ c. omega arith)
+    (λ c. omega arith)
+    (λ c. omega arith)
+    (λ c. omega arith)
+    loop-again
+    (λ c. omega arith)
+    (λ c. omega arith)
+    (λ c. omega arith)
+    (λ c. omega arith)
+    loop-again-2
+    (λ c. omega arith)
+    (λ c. omega arith)
+    (λ c. omega arith)
+    loop-again-3
+    returns-2
+    (λ c. past-end _ _ (omega arith) ∙ sym (c .before .loop .inv)))

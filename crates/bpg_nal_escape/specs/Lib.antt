@@ -1,0 +1,7 @@
+-- Emulation prevention in NAL units.
+pub mod Emulation
+pub mod Calls
+pub mod Checks
+pub mod Endings
+pub mod RoundTrips
+pub mod Examples

@@ -1,0 +1,5 @@
+-- The laws of SEI messages.
+pub mod StepLaws
+pub mod MessageLaws
+pub mod AnswerLaws
+pub mod Refusals

@@ -1,0 +1,4 @@
+-- The messages of a prefix SEI unit.
+pub mod Messages
+pub mod Steps
+pub mod Examples
