@@ -1,4 +1,4 @@
--- `writing::zeros` meets its contract. Assumes nothing.
+-- `writing::zeros` meets its contract.
 use mathlib.Core.Path.{_≡_, sym}
 use Prim.Native.Nat.{ℕ}
 use lib.ListN.{length, replicate, length-replicate}

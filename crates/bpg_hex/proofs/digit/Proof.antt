@@ -1,12 +1,9 @@
--- `hex::digit` meets its contract. Assumes nothing.
+-- `digit` meets its contract.
 use native.Mathlib.Omega.{arith}
 use borrow.Author.Needs.{needs}
-use Rattle.bpg_examples.proofs.HexLaws.{below-digits, decimal-digit, between-digits, letter-digit, above-digits}
-use Rattle.bpg_examples.proofs.hex.digit.Statement.{statement}
-use Rattle.bpg_examples.proofs.hex.digit.Tie as tie
-
-sub-result : tie.Need-sub-result
-sub-result c = search needs
+use Rattle.bpg_hex.proofs.HexLaws.{below-digits, decimal-digit, between-digits, letter-digit, above-digits}
+use Rattle.bpg_hex.proofs.digit.Statement.{statement}
+use Rattle.bpg_hex.proofs.digit.Tie as tie
 
 returns : tie.Need-returns
 returns c = let a = c .before .before .args in (omega arith, decimal-digit (a .c) (omega arith) (omega arith))
@@ -24,4 +21,4 @@ returns-5 : tie.Need-returns-5
 returns-5 c = search (needs, above-digits)
 
 pub digit-spec : {M : Type 1} → statement M
-digit-spec = tie.close (tie.spec sub-result returns returns-2 returns-3 returns-4 returns-5)
+digit-spec = tie.close (tie.spec (λ c. search needs) returns returns-2 returns-3 returns-4 returns-5)

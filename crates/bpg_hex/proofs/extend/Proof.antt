@@ -1,15 +1,12 @@
--- `hex::extend` meets its contract. Assumes nothing.
+-- `extend` meets its contract.
 use mathlib.Core.Path.{_≡_, sym, ap, _∙_}
 use Prim.Native.Nat.{_+_, _*_}
 use lib.ListN.{length, set}
-use Rattle.bpg_examples.specs.HexLines.{digitValue, lineAt}
-use Rattle.bpg_examples.proofs.HexLaws.{Digit, comment-begins, in-comment, no-digit, first-digit, not-held, second-digit}
+use Rattle.bpg_hex.specs.HexLines.{digitValue, lineAt}
+use Rattle.bpg_hex.proofs.HexLaws.{Digit, comment-begins, in-comment, no-digit, first-digit, not-held, second-digit}
 use borrow.Author.Needs.{needs}
-use Rattle.bpg_examples.proofs.hex.extend.Statement.{statement}
-use Rattle.bpg_examples.proofs.hex.extend.Tie as tie
-
-digit-requires : tie.Need-digit-requires
-digit-requires c κs = search needs
+use Rattle.bpg_hex.proofs.extend.Statement.{statement}
+use Rattle.bpg_hex.proofs.extend.Tie as tie
 
 returns : tie.Need-returns
 returns c =
@@ -55,21 +52,6 @@ returns-5 c =
       not-held (length (a .bytes .now)) (a .line) (a .c) _ _ _ _ (digit l) (c .before .if4 .left) (c .if5 .taken),
     )
 
-mul-bytes : tie.Need-mul-bytes
-mul-bytes c = search needs
-
-add-bytes : tie.Need-add-bytes
-add-bytes c = search needs
-
-slice-write-bytes : tie.Need-slice-write-bytes
-slice-write-bytes c = search needs
-
-add-t8 : tie.Need-add-t8
-add-t8 c = search needs
-
-same-length : tie.Need-same-length
-same-length c = search needs
-
 returns-6 : tie.Need-returns-6
 returns-6 c =
     let l = c .before .before in
@@ -83,15 +65,5 @@ pub extend-spec : {M : Type 1} → statement M
 extend-spec =
     tie.close
     (tie.spec
-    digit-requires
-    returns
-    returns-2
-    returns-3
-    returns-4
-    returns-5
-    mul-bytes
-    add-bytes
-    slice-write-bytes
-    add-t8
-    same-length
-    returns-6)
+    (λ c κs. search needs) returns returns-2 returns-3 returns-4 returns-5 (λ c. search needs)
+    (λ c. search needs) (λ c. search needs) (λ c. search needs) (λ c. search needs) returns-6)
