@@ -3,7 +3,7 @@
 // A case is a line of hex digits: a byte that says what to run, and the bytes to run it on. `#` begins a comment; other characters
 // are skipped.
 //   00 to 05  a number code, see `numbers`       07  writing a record, see `case`
-//   06        reading a file                     08  canonicalizing a file
+//   06        reading a file, and its parts      08  canonicalizing a file
 //                                                09  the entries of a file, by the cursor
 mod canonical;
 mod case;
@@ -11,11 +11,12 @@ mod cursor;
 mod fields;
 mod hex;
 mod numbers;
+mod parts;
 mod reading;
 mod text;
 mod writing;
 
-use crate::hex::HexLine;
+use bpg_hex::HexLine;
 
 // The first bytes are the case. Any other line, such as an empty one, prints nothing.
 fn show_case(bytes: &[u8], count: usize) {
@@ -37,9 +38,9 @@ fn show_case(bytes: &[u8], count: usize) {
 fn take(bytes: &mut [u8], line: HexLine, c: u8) -> HexLine {
     if c == b'\n' {
         show_case(bytes, line.count);
-        return hex::none();
+        return bpg_hex::none();
     }
-    hex::extend(bytes, line, c)
+    bpg_hex::extend(bytes, line, c)
 }
 
 // Each line of the text; the answer is what follows the last.
@@ -63,7 +64,7 @@ fn show_chunk(bytes: &mut [u8], begun: HexLine) -> HexLine {
 fn main() {
     let mut space = io::large_buffer();
     let bytes: &mut [u8] = &mut space;
-    let mut line = hex::none();
+    let mut line = bpg_hex::none();
     let mut left: usize = 32;
     while 0 < left {
         line = show_chunk(bytes, line);

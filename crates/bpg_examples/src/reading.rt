@@ -1,7 +1,8 @@
 // Reads a file and prints a line: the file, the line of its reading, and, where it is accepted, the rest of its record and the
-// coded size.
+// coded size; then the parts of the file that are handed out.
 use crate::fields;
 use crate::hex;
+use crate::parts;
 use crate::text;
 use bpg_format::Reading;
 use bpg_show_line::line;
@@ -28,10 +29,12 @@ fn show_reading(reading: Reading) {
     if reading.status == 0 {
         fields::show(reading);
     }
-    text::show(b"\n");
 }
 
 pub(crate) fn show(file: &[u8]) {
+    let reading = bpg_reader::read(file);
     hex::show(file);
-    show_reading(bpg_reader::read(file));
+    show_reading(reading);
+    parts::show(file, reading.record.entry_count as usize);
+    text::show(b"\n");
 }

@@ -1,9 +1,9 @@
--- `hex::digit` meets its contract.
+-- `digit` meets its contract.
 use native.Mathlib.Omega.{arith}
 use borrow.Author.Needs.{needs}
-use Rattle.bpg_examples.proofs.HexLaws.{below-digits, decimal-digit, between-digits, letter-digit, above-digits}
-use Rattle.bpg_examples.proofs.hex.digit.Statement.{statement}
-use Rattle.bpg_examples.proofs.hex.digit.Tie as tie
+use Rattle.bpg_hex.proofs.HexLaws.{below-digits, decimal-digit, between-digits, letter-digit, above-digits}
+use Rattle.bpg_hex.proofs.digit.Statement.{statement}
+use Rattle.bpg_hex.proofs.digit.Tie as tie
 
 returns : tie.Need-returns
 returns c = let a = c .before .before .args in (omega arith, decimal-digit (a .c) (omega arith) (omega arith))

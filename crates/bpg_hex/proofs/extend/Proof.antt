@@ -1,12 +1,12 @@
--- `hex::extend` meets its contract.
+-- `extend` meets its contract.
 use mathlib.Core.Path.{_≡_, sym, ap, _∙_}
 use Prim.Native.Nat.{_+_, _*_}
 use lib.ListN.{length, set}
-use Rattle.bpg_examples.specs.HexLines.{digitValue, lineAt}
-use Rattle.bpg_examples.proofs.HexLaws.{Digit, comment-begins, in-comment, no-digit, first-digit, not-held, second-digit}
+use Rattle.bpg_hex.specs.HexLines.{digitValue, lineAt}
+use Rattle.bpg_hex.proofs.HexLaws.{Digit, comment-begins, in-comment, no-digit, first-digit, not-held, second-digit}
 use borrow.Author.Needs.{needs}
-use Rattle.bpg_examples.proofs.hex.extend.Statement.{statement}
-use Rattle.bpg_examples.proofs.hex.extend.Tie as tie
+use Rattle.bpg_hex.proofs.extend.Statement.{statement}
+use Rattle.bpg_hex.proofs.extend.Tie as tie
 
 returns : tie.Need-returns
 returns c =
@@ -65,15 +65,5 @@ pub extend-spec : {M : Type 1} → statement M
 extend-spec =
     tie.close
     (tie.spec
-    (λ c κs. search needs)
-    returns
-    returns-2
-    returns-3
-    returns-4
-    returns-5
-    (λ c. search needs)
-    (λ c. search needs)
-    (λ c. search needs)
-    (λ c. search needs)
-    (λ c. search needs)
-    returns-6)
+    (λ c κs. search needs) returns returns-2 returns-3 returns-4 returns-5 (λ c. search needs)
+    (λ c. search needs) (λ c. search needs) (λ c. search needs) (λ c. search needs) returns-6)

@@ -6,8 +6,8 @@ use lib.Dec.{leb}
 use borrow.Author.Tests.{lt-ltb, le-ltb, le-leb, lt-leb, eq-eqb, ne-eqb}
 use Rattle.bpg_codec.specs.Select.{select}
 use Rattle.bpg_codec.proofs.Select.{select-true, select-false}
-use Rattle.bpg_examples.specs.declared.hex.HexLine.{HexLine}
-use Rattle.bpg_examples.specs.HexLines.{digitValue, afterCharacter}
+use Rattle.bpg_hex.specs.declared.HexLine.{HexLine}
+use Rattle.bpg_hex.specs.HexLines.{digitValue, afterCharacter}
 
 pub below-digits : (c : ℕ) → c < 48 → 16 ≡ digitValue c
 unfolding digitValue

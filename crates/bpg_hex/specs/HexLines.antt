@@ -1,10 +1,10 @@
--- Lines of hex digits: what one more character does to a line, and to the buffer that takes the line's bytes.
-use mathlib.Core.List.{List}
-use Prim.Native.Nat.{ℕ, _+_, _-_, _*_}
+-- Hex digits: what one more character does to a line, and to the buffer that takes the line's bytes.
+use mathlib.Core.List.{List, [], _∷_}
+use Prim.Native.Nat.{ℕ, _+_, _-_, _*_, _/_, _%_}
 use lib.Dec.{leb, ltb, eqb}
 use lib.ListN.{length, set}
 use Rattle.bpg_codec.specs.Select.{select}
-use Rattle.bpg_examples.specs.declared.hex.HexLine.{HexLine}
+use Rattle.bpg_hex.specs.declared.HexLine.{HexLine}
 
 -- a digit's value, or 16: `0` to `9` are 48 to 57, `a` to `f` are 97 to 102
 unfoldable pub digitValue : ℕ → ℕ
@@ -30,3 +30,10 @@ lineAfter capacity line c =
 abbrev pub bytesAfter : List ℕ → HexLine → ℕ → List ℕ
 bytesAfter bytes line c =
     afterCharacter (length bytes) line c bytes bytes bytes (set bytes (line .count) (line .half * 16 + digitValue c))
+
+-- the digit of a number below 16, and the two of a byte, the high one first
+abbrev pub digitOf : ℕ → ℕ
+digitOf n = select (ltb n 10) (48 + n) (87 + n)
+
+abbrev pub digitsOf : ℕ → List ℕ
+digitsOf b = digitOf (b / 16) ∷ digitOf (b % 16) ∷ []

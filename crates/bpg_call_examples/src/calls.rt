@@ -1,0 +1,64 @@
+// Runs the calls for C and Rust on a file and prints a line: the file; status, offset and list of reading it, for a list of two numbers
+// more than a reading has, and for one of one fewer; whether there is an entry, tag and range, for 18 indices; status, offset, count
+// and buffer of canonicalizing it, for a buffer as long as the file, and for one of eight bytes. Lists are filled with 9 before, and
+// buffers with a5.
+use crate::text;
+
+fn show_read(file: &[u8], numbers: &mut [u64]) {
+    let mut offset: usize = 9;
+    let status = bpg_export::bpg_read(file, numbers, &mut offset);
+    text::show_number(b" | read ", status as u64);
+    text::show_number(b" ", offset as u64);
+    text::show_numbers(numbers);
+}
+
+fn show_entry(file: &[u8], k: usize) {
+    let mut tag: u32 = 9;
+    let mut start: u32 = 9;
+    let mut length: u32 = 9;
+    if bpg_export::bpg_entry(file, k, &mut tag, &mut start, &mut length) {
+        text::show(b" +");
+    } else {
+        text::show(b" -");
+    }
+    text::show_number(b"", tag as u64);
+    text::show_number(b"@", start as u64);
+    text::show_number(b"+", length as u64);
+}
+
+fn show_entries(file: &[u8]) {
+    text::show(b" | entries");
+    for k in 0..18 {
+        show_entry(file, k);
+    }
+}
+
+fn show_canonical(file: &[u8], out: &mut [u8]) {
+    let mut count: usize = 9;
+    let mut offset: usize = 9;
+    let status = bpg_export::bpg_canonicalize(file, out, &mut count, &mut offset);
+    text::show_number(b" | canonical ", status as u64);
+    text::show_number(b" ", offset as u64);
+    text::show_number(b" ", count as u64);
+    text::show(b" ");
+    text::show_hex(out);
+}
+
+fn show_canonical_in(file: &[u8], size: usize) {
+    let mut space = [0xa5u8; 1024];
+    if size <= 1024 {
+        show_canonical(file, &mut space[0..size]);
+    }
+}
+
+pub(crate) fn show(file: &[u8]) {
+    let mut longer = [9u64; 119];
+    let mut shorter = [9u64; 116];
+    text::show_hex(file);
+    show_read(file, &mut longer);
+    show_read(file, &mut shorter);
+    show_entries(file);
+    show_canonical_in(file, file.len());
+    show_canonical_in(file, 8);
+    text::show(b"\n");
+}

@@ -1,2 +1,0 @@
--- What the reader of hex digits answers.
-pub mod HexLines

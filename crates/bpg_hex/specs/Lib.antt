@@ -1,0 +1,2 @@
+-- What reading and writing hex digits answers.
+pub mod HexLines
