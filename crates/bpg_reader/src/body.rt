@@ -21,6 +21,8 @@ ghost use Rattle.bpg_read_entries.specs.Blocks.{blockAnswer};
 ghost use Rattle.bpg_reader.specs.Bodies.{headFields};
 
 // The entries of the extension block. Without the extension flag its length is 0.
+// `block::read` is called in two places: called in one, it would be compiled into this function and those that call it, whose
+// many values leave its loop no registers.
 fn entries(file: &[u8], head: Head) -> Block
     requires { ⌜ count (now file) ≤ maxFile ⌝ }
     requires { ⌜ head .end .0 ≤ count (now file) ⌝ }
@@ -34,6 +36,9 @@ fn entries(file: &[u8], head: Head) -> Block
         return block::none();
     }
     let end = head.end.0 + length;
+    if head.flags.animation_flag {
+        return block::read(&file[0..end], head.end);
+    }
     block::read(&file[0..end], head.end)
 }
 

@@ -31,7 +31,10 @@ returns-2 c =
     c .none .ensures ∙ block-empty _ (s .pre .0) (headFields (s .args .head)) (s .pre .1) (c .before .if2 .taken)
 
 returns-3 : tie.Need-returns-3
-returns-3 c = c .read .ensures ∙ region (c .before .before .before .before)
+returns-3 c = c .read .ensures ∙ region (c .before .before .before .before .before)
+
+returns-4 : tie.Need-returns-4
+returns-4 c = c .read2 .ensures ∙ region (c .before .before .before .before .before)
 
 pub entries-spec : {M : Type 1} → statement M
 entries-spec =
@@ -48,4 +51,9 @@ entries-spec =
     (λ c. search needs)
     (λ c. search needs)
     (λ c κs. search needs)
-    returns-3)
+    returns-3
+    (λ c. search needs)
+    (λ c. search needs)
+    (λ c. search needs)
+    (λ c κs. search needs)
+    returns-4)
