@@ -39,7 +39,7 @@ pub record Answers : Type 0 where
 computed : All Holds examples × Answers
 unfolding select bits unpack pack padded groups ue7Bytes ue7Rest ue7Decode leadingZeros prefixDecode expGolombBits extensionPart headerBits headerBytes headersAndData dataLength fileOf noForbiddenBit pcmAllowed hevcAllowed readFlags readHead readAnimation animationOf readEntry readEntries readBlock readFields readHeader readAlphaHeader readBody readContent extensionLengthStart blockStart dataStart recordOf readFile pictureOf withChoices canonicalContent canonicalBytes canonicalOutcome canonicalBuffer rangesInSource unusedZero absentZero headerZero consistent checkAnimation checkEntries fieldsCoded checkHeader checkContent sizedFile checkRecord writeOutcome writeFile writeBuffer contentOf entryOf canonicalFile
 computed = (
-  (refl, (refl, (refl, (refl, (refl, (refl, (refl, (refl, (refl, (refl, (refl, (refl, (refl, (refl, (refl, (refl, tt)))))))))))))))),
+  (refl, (refl, (refl, (refl, (refl, (refl, (refl, (refl, (refl, (refl, (refl, (refl, ((refl, refl), ((refl, refl), (refl, (refl, tt)))))))))))))))),
   record {
     a-reads = refl;
     a-data-length = refl;

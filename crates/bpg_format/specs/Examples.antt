@@ -14,7 +14,7 @@ use Rattle.bpg_format.specs.declared.record.Record.{Record}
 use Rattle.bpg_format.specs.declared.answer.Reading.{Reading}
 use Rattle.bpg_format.specs.Zero.{range, zeroHeader, refusedReading}
 use Rattle.bpg_format.specs.Records.{padEntries, readFile}
-use Rattle.bpg_format.specs.Pictures.{canonicalBuffer}
+use Rattle.bpg_format.specs.Pictures.{canonicalFile, canonicalBuffer}
 
 -- ---- the files A, B and C
 
@@ -113,14 +113,16 @@ pub data Example : Type 0 where
   -- ue(v) at offset 0
   code : List Bool → Outcome (ℕ × ℕ) → Example
   reads : List ℕ → Reading → Example
-  -- the canonical form, into a buffer of just its size
+  -- the canonical form, into a buffer of just its size: the answer and the buffer
   canonicalizes : List ℕ → List ℕ → Example
 
 abbrev pub Holds : Example → Type 0
 Holds (number n l o) = located (ue7Decode n 0 l) ≡ o
 Holds (code l o) = located (expGolombDecode 0 0 l) ≡ o
 Holds (reads f r) = readFile f ≡ r
-Holds (canonicalizes f g) = canonicalBuffer f (replicate (length g) 0) ≡ g
+Holds (canonicalizes f g) =
+    let out : List ℕ = replicate (length g) 0 in
+    (canonicalFile f out ≡ record { status = 0; offset = 0; count = length g }) × (canonicalBuffer f out ≡ g)
 
 abbrev pub examples : List Example
 examples =
