@@ -79,7 +79,7 @@ module _ (alpha : Bool) (u : List ℕ) (h : NalHeader) where
     kind-sei e = select-false _ _ n ∙ select-true _ _ e
 
     module _ (m : isPrefixSei h ≡ false) where
-      kind-other : kindSays alpha u h ≡ otherSays alpha h
+      pub kind-other : kindSays alpha u h ≡ otherSays alpha h
       unfolding kindSays
       kind-other = select-false _ _ n ∙ select-false _ _ m
 
