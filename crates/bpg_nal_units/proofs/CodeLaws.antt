@@ -25,13 +25,13 @@ module _ (l : List ℕ) where
   abbrev third : ℕ
   third = getD l 2 0
 
-  by-third : (third ≡ 1 → ⊥) → startsCode l ≡ false
+  pub by-third : (third ≡ 1 → ⊥) → startsCode l ≡ false
   by-third h = rw (ne-eqb third 1 h)
 
-  by-second : (second ≡ 0 → ⊥) → startsCode l ≡ false
+  pub by-second : (second ≡ 0 → ⊥) → startsCode l ≡ false
   by-second h = and-false (eqb third 1) (eqb second 0 && eqb first 0) (rw (ne-eqb second 0 h))
 
-  by-first : (first ≡ 0 → ⊥) → startsCode l ≡ false
+  pub by-first : (first ≡ 0 → ⊥) → startsCode l ≡ false
   by-first h = and-false (eqb third 1) (eqb second 0 && eqb first 0) (and-false (eqb second 0) (eqb first 0) (ne-eqb first 0 h))
 
   by-all : third ≡ 1 → second ≡ 0 → first ≡ 0 → startsCode l ≡ true
