@@ -39,7 +39,7 @@ module _ (f : List ℕ) (bytes : All Byte f) (z : readFile f .status ≡ 0) wher
   pub data-small : length f < 2 ^ 32
   data-small = let a = reading .only-accepted f bytes z in let s = a .1 .size in omega (arith, ap length (a .2))
 
-  data-is : dataOf f ≡ drop (dataAt f) f
+  pub data-is : dataOf f ≡ drop (dataAt f) f
   unfolding dataOf
   data-is = let e = data-end in take-all (recordIn f .«data» .length) (drop (dataAt f) f) (rw length-drop (omega arith))
 
@@ -52,7 +52,7 @@ module _ (f : List ℕ) (bytes : All Byte f) (z : readFile f .status ≡ 0) wher
 
 -- ---- an answer of 0
 
-not-zero : (f : List ℕ) → Refuses (λ s o. s ≢ 0) (framesOf f)
+pub not-zero : (f : List ℕ) → Refuses (λ s o. s ≢ 0) (framesOf f)
 unfolding framesOf
 not-zero f =
     by-equal (readFile f .status) 0

@@ -1,6 +1,6 @@
 -- The frames, unit by unit: one equation for each case, and a turn of either pass.
 use mathlib.Core.Path.{_≡_, refl, sym, ap, _∙_}
-use mathlib.Core.Bool.{Bool}
+use mathlib.Core.Bool.{Bool, true, false}
 use mathlib.Core.List.{List, [], _∷_, _++_}
 use Prim.Native.Nat.{ℕ, _+_, _-_, _≤_, _<_}
 use native.Mathlib.Omega.{arith}
@@ -102,6 +102,10 @@ module _ (alpha : Bool) (w : Waiting) (ds : List ℕ) (u : Nal) (us : List Nal) 
       at-ok (ok y) x g = g
       at-ok (error s o) x g = absurd (let z : _≡_ {A = ℕ} 0 1 = cc in omega arith)
 
+pub frames-stop : (alpha : Bool) (w : Waiting) (ds : List ℕ) (u : Nal) (us : List Nal) (s o : ℕ) → judged alpha (w .duration) (u .bytes) ≡ error s o
+    → framesFrom alpha (u ∷ us) w ds ≡ error s (u .start)
+frames-stop alpha w ds u us s o j = rest-is alpha w ds u us ∙ rw j
+
 -- ---- a turn of either pass: the unit at `start`, and the units after it
 
 module _ (f : List ℕ) (start : ℕ) (h : start ≤ length f) (cut : Cut) (e : cut ≡ cutAt f start) where
@@ -142,3 +146,32 @@ module _ (f : List ℕ) (start : ℕ) (h : start ≤ length f) (cut : Cut) (e : 
       pub all-more : cut .code .0 < length f
           → all ≡ framesFrom alpha (units (cut .code .0 + 3) (drop (cut .code .0 + 3) f)) (waitBy w v start) (timedBy w v ds)
       all-more k = inv ∙ rw (turn-more k) (frames-on alpha w ds (unitAt f start) _ v j z)
+
+-- ---- a unit of frames that are all well
+
+module _ (w : Waiting) (p : ℕ) (x : Said) (ds : List ℕ) where
+  wait-taken : x .starts ≡ true → waitAfter w p x ≡ nothing
+  unfolding waitAfter
+  wait-taken b = select-true _ _ b
+
+  wait-set : x .starts ≡ false → waitAfter w p x ≡ setBy w p (x .durations)
+  unfolding waitAfter
+  wait-set b = select-false _ _ b
+
+  timed-one : x .starts ≡ true → timed w x ds ≡ ds ++ (lasting (w .duration) ∷ [])
+  unfolding timed
+  timed-one b = select-true _ _ b
+
+  timed-none : x .starts ≡ false → timed w x ds ≡ ds
+  unfolding timed
+  timed-none b = select-false _ _ b
+
+module _ (alpha : Bool) (w : Waiting) (ds : List ℕ) (u : Nal) (us : List Nal) (x : Said) (j : judged alpha (w .duration) (u .bytes) ≡ ok x) where
+  goes-on : framesFrom alpha (u ∷ us) w ds ≡ framesFrom alpha us (waitAfter w (u .start) x) (timed w x ds)
+  goes-on = rest-is alpha w ds u us ∙ rw j
+
+  pub frames-starts : x .starts ≡ true → framesFrom alpha (u ∷ us) w ds ≡ framesFrom alpha us nothing (ds ++ (lasting (w .duration) ∷ []))
+  frames-starts b = goes-on ∙ rw (wait-taken w (u .start) x ds b, timed-one w (u .start) x ds b)
+
+  pub frames-goes : x .starts ≡ false → framesFrom alpha (u ∷ us) w ds ≡ framesFrom alpha us (setBy w (u .start) (x .durations)) ds
+  frames-goes b = goes-on ∙ rw (wait-set w (u .start) x ds b, timed-none w (u .start) x ds b)

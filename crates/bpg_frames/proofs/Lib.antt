@@ -4,3 +4,7 @@ pub mod Refusals
 pub mod FrameLaws
 pub mod PassLaws
 pub mod CallLaws
+pub mod SaidLaws
+pub mod AllFrames
+pub mod RefusedAt
+pub mod Requirements

@@ -1,6 +1,6 @@
 -- The two passes: what holds at the start of each unit, and a turn.
 use mathlib.Core.Path.{_≡_, refl, sym, ap, _∙_}
-use mathlib.Core.Bool.{Bool, true}
+use mathlib.Core.Bool.{Bool, true, false}
 use mathlib.Core.List.{List, [], _∷_, _++_}
 use Prim.Native.Nat.{ℕ, _+_, _-_, _≤_, _<_}
 use native.Mathlib.Numerals.{add-one}
@@ -17,13 +17,14 @@ use Rattle.bpg_nal_units.specs.Headers.{headerOf}
 use Rattle.bpg_nal_units.specs.Units.{Nal, units, bytesAt, cutAt}
 use Rattle.bpg_nal_units.proofs.Cases.{by-test, by-equal}
 use Rattle.bpg_nal_units.proofs.UnitLaws.{unitAt}
+use Rattle.bpg_nal_escape.specs.Emulation.{keepsRules}
 use Rattle.bpg_frames.specs.declared.kind.Verdict.{Verdict}
 use Rattle.bpg_frames.specs.declared.wait.Waiting.{Waiting}
 use Rattle.bpg_frames.specs.Units.{Said, kindSays}
 use Rattle.bpg_frames.specs.Frames.{judged, nothing, lasting, framesFrom}
 use Rattle.bpg_frames.specs.Calls.{framesAnswer}
-use Rattle.bpg_frames.specs.Answers.{verdictOf, waitBy, refusedFrames, ended, framesAt, durationsAt, Storable}
-use Rattle.bpg_frames.proofs.UnitLaws.{unit-passed, judged-passed}
+use Rattle.bpg_frames.specs.Answers.{refusedBy, verdictOf, waitBy, refusedFrames, ended, framesAt, durationsAt, Storable}
+use Rattle.bpg_frames.proofs.UnitLaws.{unit-broken, unit-passed, judged-refused, judged-passed}
 use Rattle.bpg_frames.proofs.FrameLaws.{timedBy, timed-length, one-most}
 use Rattle.bpg_frames.proofs.FrameLaws.{frames-end, frames-open, frames-judged, frames-on, turn-end, turn-part, turn-room, turn-first, all-refused, all-last, all-more}
 
@@ -39,9 +40,19 @@ pub record Counting (f : List ℕ) (p : ℕ) (alpha : Bool) (start found : ℕ) 
 pub counting : (f : List ℕ) (p : ℕ) (alpha : Bool) (w : Waiting) → p ≤ length f → w ≡ nothing → Counting f p alpha p 0 w
 counting f p alpha w h e = record { inside = h; few = omega arith; ds = []; found-is = refl; same = rw e }
 
+-- a unit that breaks an emulation rule
+pub count-broken : {f : List ℕ} {p : ℕ} {alpha : Bool} {start found : ℕ} {w : Waiting} → Counting f p alpha start found w
+    → keepsRules (bytesAt f start) ≡ false → refusedFrames 22 start ≡ framesAnswer (framesAt f p alpha)
+count-broken {f} {p} {alpha} {start} {found} {w} c k =
+    let j = judged-refused alpha (w .duration) (bytesAt f start) (refusedBy 22) (unit-broken alpha (bytesAt f start) k) (λ z. omega arith) in
+    rw (all-refused f start (c .inside) (cutAt f start) refl alpha w (c .ds) (refusedBy 22) (framesAt f p alpha) (c .same) j (λ z. omega arith))
+
 module _ {f : List ℕ} {p : ℕ} {alpha : Bool} {start found : ℕ} {w : Waiting} (c : Counting f p alpha start found w) (cut : Cut) (e : cut ≡ cutAt f start) where
   pub count-span : (start ≤ cut .end .0) × (cut .end .0 ≤ length f) × (start ≤ cut .code .0)
   count-span = turn-end f start (c .inside) cut e
+
+  pub count-kept : keepsRules (bytesAt f start) ≡ true → keepsRules (take (cut .end .0 - start) (drop start f)) ≡ true
+  count-kept k = ap keepsRules (turn-part f start (c .inside) cut e) ∙ k
 
   pub count-room : cut .code .0 < length f → cut .code .0 + 3 ≤ length f
   count-room = turn-room f start (c .inside) cut e

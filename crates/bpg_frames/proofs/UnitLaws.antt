@@ -79,7 +79,7 @@ module _ (alpha : Bool) (u : List ℕ) (h : NalHeader) where
     kind-sei e = select-false _ _ n ∙ select-true _ _ e
 
     module _ (m : isPrefixSei h ≡ false) where
-      kind-other : kindSays alpha u h ≡ otherSays alpha h
+      pub kind-other : kindSays alpha u h ≡ otherSays alpha h
       unfolding kindSays
       kind-other = select-false _ _ n ∙ select-false _ _ m
 
@@ -97,6 +97,19 @@ module _ (alpha : Bool) (u : List ℕ) where
   abbrev head : NalHeader
   head = headerOf (getD u 0 0) (getD u 1 0)
 
+  -- whatever its header is
+  pub unit-broken : keepsRules u ≡ false → refusedBy 22 ≡ verdictOf (unitSays alpha u)
+  unfolding unitSays
+  unit-broken e = rw e (by (leb 2 (length u)) (not (head .«forbidden_zero_bit»)) (not (eqb (head .«nuh_temporal_id_plus1») 0)))
+    where
+      by : (a b c : Bool)
+          → refusedBy 22
+          ≡ verdictOf (guard a 22 0 >>= λ _. guard b 22 0 >>= λ _. guard c 22 0 >>= λ _. guard false 22 0 >>= λ _. kindSays alpha u head)
+      by false b c = refl
+      by true false c = refl
+      by true true false = refl
+      by true true true = refl
+
   pub unit-short : length u < 2 → refusedBy 22 ≡ verdictOf (unitSays alpha u)
   unfolding unitSays
   unit-short h = rw (lt-leb 2 (length u) h)
@@ -112,10 +125,6 @@ module _ (alpha : Bool) (u : List ℕ) where
       unit-temporal e = rw (le-leb 2 (length u) h, f, eq-eqb (head .«nuh_temporal_id_plus1») 0 e)
 
       module _ (t : head .«nuh_temporal_id_plus1» ≡ 0 → ⊥) where
-        pub unit-rules : keepsRules u ≡ false → refusedBy 22 ≡ verdictOf (unitSays alpha u)
-        unfolding unitSays
-        unit-rules e = rw (le-leb 2 (length u) h, f, ne-eqb (head .«nuh_temporal_id_plus1») 0 t, e)
-
         pub unit-kind : keepsRules u ≡ true → kindSays alpha u head ≡ unitSays alpha u
         unfolding unitSays
         unit-kind e = rw (le-leb 2 (length u) h, f, ne-eqb (head .«nuh_temporal_id_plus1») 0 t, e)

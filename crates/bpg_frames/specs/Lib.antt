@@ -2,4 +2,6 @@
 pub mod Units
 pub mod Frames
 pub mod Calls
+pub mod Examples
 pub mod Answers
+pub mod Requirements

@@ -4,7 +4,7 @@ use crate::wait::Waiting;
 use crate::wait::nothing_waits;
 use crate::wait::wait_after;
 use bpg_bytes::BytePos;
-use bpg_nal_units::cut_at;
+use bpg_nal_escape::scan_at;
 ghost use mathlib.Core.Path.{_≡_};
 ghost use Prim.Native.Nat.{_+_, _<_, _≤_, _^_};
 ghost use lib.ListN.{length};
@@ -63,7 +63,11 @@ pub(crate) fn count_frames(file: &[u8], data: BytePos, alpha: bool) -> Frames
     let mut start = data.0;
     let mut wait = nothing_waits();
     loop {
-        let cut = cut_at(file, BytePos(start));
+        let scan = scan_at(file, BytePos(start));
+        if !scan.kept {
+            return refused(22, start);
+        }
+        let cut = scan.cut;
         let past = cut.end.0;
         let verdict = judge(&file[start..past], alpha, wait.duration);
         if verdict.status != 0 {

@@ -1,14 +1,17 @@
-// Judging a unit: its header, the emulation rules, its kind, and the durations that it sets.
+// Judging a unit that keeps the emulation rules: its header, its kind, and the durations that it sets.
 use crate::kind::Verdict;
 use crate::kind::refused_by;
 use crate::kind::verdict_on;
 use bpg_nal_units::header;
+ghost use mathlib.Core.Bool.{true};
 ghost use mathlib.Core.Path.{_≡_};
+ghost use Rattle.bpg_nal_escape.specs.Emulation.{keepsRules};
 ghost use Rattle.bpg_frames.specs.Units.{unitSays};
 ghost use Rattle.bpg_frames.specs.Frames.{judged};
 ghost use Rattle.bpg_frames.specs.Answers.{verdictOf, settlesBy};
 
 fn says(unit: &[u8], alpha: bool) -> Verdict
+    requires { ⌜ keepsRules (now unit) ≡ true ⌝ }
     ensures { λ r. ⌜ r ≡ verdictOf (unitSays alpha (now (unit .entry))) ⌝ }
 {
     if unit.len() < 2 {
@@ -19,10 +22,6 @@ fn says(unit: &[u8], alpha: bool) -> Verdict
         return refused_by(22);
     }
     if header.nuh_temporal_id_plus1 == 0 {
-        return refused_by(22);
-    }
-    let checked = bpg_nal_escape::check(unit);
-    if !checked.kept {
         return refused_by(22);
     }
     verdict_on(unit, alpha)
@@ -36,6 +35,7 @@ fn settles(pending: u16, count: usize, duration: u16) -> bool
 }
 
 pub(crate) fn judge(unit: &[u8], alpha: bool, pending: u16) -> Verdict
+    requires { ⌜ keepsRules (now unit) ≡ true ⌝ }
     ensures { λ r. ⌜ r ≡ verdictOf (judged alpha pending (now (unit .entry))) ⌝ }
 {
     let said = says(unit, alpha);

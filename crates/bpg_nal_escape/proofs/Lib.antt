@@ -6,4 +6,7 @@ pub mod OffsetLaws
 pub mod EndingLaws
 pub mod BufferLaws
 pub mod CallLaws
+pub mod RunLaws
+pub mod FirstPattern
+pub mod ScanLaws
 pub mod RoundTrips

@@ -62,13 +62,13 @@ module _ (u : List ℕ) (i p : ℕ) (h : i ≤ length u) (e : p ≡ offsetFrom s
     pub room : (i ≤ p) × (p + 3 ≤ length u)
     room = let o = offset-is in let r = pattern-room left one-more in (omega arith, omega (arith, length-drop i u))
 
-    there : drop n left ≡ drop p u
+    pub there : drop n left ≡ drop p u
     there = drop-drop n i u ∙ ap (λ (j : ℕ). drop j u) (sym offset-is)
 
     third-there : getD (drop p u) 2 0 ≡ getD u (p + 2) 0
     third-there = getD-drop p u 2 0
 
-    bytes : (drop p u ≡ 0 ∷ 0 ∷ getD u (p + 2) 0 ∷ drop (p + 3) u) × (getD u (p + 2) 0 < 4)
+    pub bytes : (drop p u ≡ 0 ∷ 0 ∷ getD u (p + 2) 0 ∷ drop (p + 3) u) × (getD u (p + 2) 0 < 4)
     bytes =
         let b = pattern-bytes (drop p u) (rw there at (search-found startsPattern left one-more)) in
         (b .0 ∙ rw (third-there, drop-drop), rw third-there at (b .1))
@@ -83,7 +83,7 @@ module _ (u : List ℕ) (i p : ℕ) (h : i ≤ length u) (e : p ≡ offsetFrom s
         let j : p + 2 - i ≡ n + 2 = omega arith in
         rw (j, take-add) (ap (λ (x : List ℕ). take n left ++ take 2 x) (there ∙ bytes .0))
 
-    next-there : getD (drop (p + 3) u) 0 0 ≡ getD u (p + 3) 0
+    pub next-there : getD (drop (p + 3) u) 0 0 ≡ getD u (p + 3) 0
     next-there = getD-drop (p + 3) u 0 0 ∙ ap (λ (j : ℕ). getD u j 0) (add-zero (p + 3))
 
     keeps-there : keepsRules left ≡ keepsRules (0 ∷ 0 ∷ getD u (p + 2) 0 ∷ drop (p + 3) u)

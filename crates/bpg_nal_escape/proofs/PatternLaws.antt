@@ -69,7 +69,7 @@ module _ (d : List ℕ) (i : ℕ) where
   abbrev patternFrom : ℕ
   patternFrom = offsetFrom startsPattern d i
 
-  first-at : getD (drop i d) 0 0 ≡ getD d i 0
+  pub first-at : getD (drop i d) 0 0 ≡ getD d i 0
   first-at = getD-drop i d 0 0 ∙ ap (λ (k : ℕ). getD d k 0) (add-zero i)
 
   none-first : (getD d i 0 ≡ 0 → ⊥) → startsPattern (drop i d) ≡ false

@@ -1,12 +1,13 @@
 -- The walks: one equation for each case.
-use mathlib.Core.Path.{_≡_, refl, _∙_}
+use mathlib.Core.Path.{_≡_, refl, sym, _∙_, subst}
 use mathlib.Core.Bool.{true, false}
 use mathlib.Core.List.{List, [], _∷_}
 use Prim.Native.Nat.{ℕ, _≤_, _<_}
 use native.Mathlib.Omega.{arith}
 use borrow.Author.Tests.{eq-eqb, ne-eqb, lt-ltb, le-ltb}
+use Rattle.bpg_codec.specs.Lawful.{All}
 use Rattle.bpg_codec.proofs.Select.{select-true, select-false}
-use Rattle.bpg_nal_units.proofs.Cases.{by-equal}
+use Rattle.bpg_nal_units.proofs.Cases.{by-test, by-equal}
 use Rattle.bpg_nal_escape.specs.Emulation.{zerosAfter, isMark, unescapeFrom, escapeFrom}
 
 module _ (z b : ℕ) where
@@ -70,3 +71,11 @@ module _ (z : ℕ) where
 pub es-end-open : escapeFrom [] 2 ≡ 3 ∷ []
 unfolding escapeFrom
 es-end-open = select-true _ _ refl
+
+-- undoing adds no byte
+pub un-all : (P : ℕ → Type 0) (l : List ℕ) (z : ℕ) → All P l → All P (unescapeFrom l z)
+un-all P [] z h = rw (un-end z) tt
+un-all P (b ∷ l) z h =
+    by-test (isMark z b)
+    (λ e. subst (All P) (sym (un-mark z b l e)) (un-all P l 0 (h .1)))
+    (λ e. subst (All P) (sym (un-byte z b l e)) (h .0, un-all P l (zerosAfter z b) (h .1)))

@@ -2,6 +2,7 @@
 pub mod Emulation
 pub mod Calls
 pub mod Checks
+pub mod Scans
 pub mod Endings
 pub mod RoundTrips
 pub mod Examples

@@ -2,9 +2,10 @@
 mod escaping;
 mod pattern;
 mod rules;
+mod scan;
 mod unescaping;
 
 pub use escaping::escape;
-pub use rules::Checked;
-pub use rules::check;
+pub use scan::Scan;
+pub use scan::scan_at;
 pub use unescaping::unescape;

@@ -12,7 +12,7 @@ pub struct Checked {
 }
 
 // The byte at `at`; 0 past the end.
-fn byte_at(unit: &[u8], at: usize) -> u8
+pub(crate) fn byte_at(unit: &[u8], at: usize) -> u8
     ensures { λ r. ⌜ r ≡ getD (now (unit .entry)) at 0 ⌝ }
 {
     if at < unit.len() {
@@ -21,7 +21,7 @@ fn byte_at(unit: &[u8], at: usize) -> u8
     0
 }
 
-pub fn check(unit: &[u8]) -> Checked
+pub(crate) fn check(unit: &[u8]) -> Checked
     ensures { λ r. ⌜ r ≡ checkOf (now (unit .entry)) ⌝ }
 {
     let mut marks: usize = 0;

@@ -4,3 +4,4 @@ pub mod SearchLaws
 pub mod CodeLaws
 pub mod TrimLaws
 pub mod UnitLaws
+pub mod Whole

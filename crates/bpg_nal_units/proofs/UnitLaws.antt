@@ -67,10 +67,10 @@ abbrev pub unitAt : List ℕ → ℕ → Nal
 unitAt d i = record { start = i; bytes = bytesAt d i }
 
 module _ (d : List ℕ) (i : ℕ) (h : i ≤ length d) where
-  cut-at : codeFrom d i ≡ i + codeOffset (drop i d)
+  pub cut-at : codeFrom d i ≡ i + codeOffset (drop i d)
   cut-at = let k = search-most startsCode (drop i d) in omega (arith, length-drop i d)
 
-  first-unit : firstUnit i (drop i d) ≡ unitAt d i
+  pub first-unit : firstUnit i (drop i d) ≡ unitAt d i
   first-unit = rw (cut-at, take-drop)
 
   pub last-at : length d ≤ codeFrom d i → units i (drop i d) ≡ unitAt d i ∷ []

@@ -2,5 +2,6 @@
 pub mod Search
 pub mod Units
 pub mod Endings
+pub mod Whole
 pub mod Headers
 pub mod Examples

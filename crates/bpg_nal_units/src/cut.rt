@@ -15,7 +15,7 @@ pub struct Cut {
 }
 
 // Where the bytes from `start` up to `code` end without the zeros at their end.
-fn trimmed(region: &[u8], start: BytePos, code: BytePos) -> BytePos
+pub fn trimmed(region: &[u8], start: BytePos, code: BytePos) -> BytePos
     ensures { λ r. ⌜ r .0 ≡ start .0 + length (trimZeros (drop (start .0) (take (code .0) (now (region .entry))))) ⌝ }
 {
     let first = start.0;

@@ -5,5 +5,6 @@ mod start_code;
 
 pub use cut::Cut;
 pub use cut::cut_at;
+pub use cut::trimmed;
 pub use nal_header::NalHeader;
 pub use nal_header::header;

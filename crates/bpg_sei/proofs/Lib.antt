@@ -3,3 +3,4 @@ pub mod StepLaws
 pub mod MessageLaws
 pub mod AnswerLaws
 pub mod Refusals
+pub mod Range

@@ -1,14 +1,12 @@
 -- `judge::says` meets its contract.
 use mathlib.Core.List.{List}
-use mathlib.Core.Path.{_≡_, sym, ap, _∙_}
+use mathlib.Core.Path.{_≡_, ap, _∙_}
 use Prim.Native.Nat.{ℕ, _%_}
 use lib.ListN.{getD}
 use borrow.Author.Needs.{needs}
-use borrow.Author.Tests.{not-true, not-false}
 use Rattle.bpg_nal_units.specs.declared.nal_header.NalHeader.{NalHeader}
-use Rattle.bpg_nal_escape.specs.declared.rules.Checked.{Checked}
 use Rattle.bpg_frames.specs.Answers.{verdictOf}
-use Rattle.bpg_frames.proofs.UnitLaws.{unit-short, unit-forbidden, unit-temporal, unit-rules, unit-kind}
+use Rattle.bpg_frames.proofs.UnitLaws.{unit-short, unit-forbidden, unit-temporal, unit-kind}
 use Rattle.bpg_frames.proofs.judge.says.Statement.{statement}
 use Rattle.bpg_frames.proofs.judge.says.Tie as tie
 
@@ -36,29 +34,16 @@ returns-3 c =
 
 returns-4 : tie.Need-returns-4
 returns-4 c =
-    let x = c .before .before .before in
-    let t = x .before in
-    let k = t .before .before in
-    let h = k .before in
-    c .refused-by4 .ensures
-    ∙ unit-rules _ (unitOf h) (h .before .before .before .if1 .left) (rw (h .header .ensures) at (k .if2 .left)) (temporal t)
-    (sym (ap (λ (y : Checked). y .kept) (x .check .ensures)) ∙ not-true _ (c .before .if4 .taken))
-
-returns-5 : tie.Need-returns-5
-returns-5 c =
-    let x = c .before .before .before in
-    let t = x .before in
+    let t = c .before in
     let k = t .before .before in
     let h = k .before in
     c .verdict-on .ensures
     ∙ ap verdictOf
     (unit-kind _ (unitOf h) (h .before .before .before .if1 .left) (rw (h .header .ensures) at (k .if2 .left)) (temporal t)
-    (sym (ap (λ (y : Checked). y .kept) (x .check .ensures)) ∙ not-false _ (c .before .if4 .left)))
+    (h .before .before .before .before .before .pre))
 
 verdict-on-requires : tie.Need-verdict-on-requires
-verdict-on-requires c κs =
-    let t = c .before .before .before in
-    (t .before .before .before .before .before .before .if1 .left, λ e. temporal t (rw e))
+verdict-on-requires t κs = (t .before .before .before .before .before .before .if1 .left, λ e. temporal t (rw e))
 
 pub says-spec : {M : Type 1} → statement M
 says-spec =
@@ -73,8 +58,5 @@ says-spec =
     returns-2
     (λ c κs. search needs)
     returns-3
-    (λ c κs. search needs)
-    (λ c κs. search needs)
-    returns-4
     verdict-on-requires
-    returns-5)
+    returns-4)
