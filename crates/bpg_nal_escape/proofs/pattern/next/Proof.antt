@@ -5,7 +5,7 @@ use native.Mathlib.Omega.{arith}
 use lib.ListN.{length}
 use Rattle.bpg_nal_units.specs.Search.{offsetFrom}
 use Rattle.bpg_nal_escape.specs.Emulation.{startsPattern}
-use Rattle.bpg_nal_escape.proofs.PatternLaws.{past-end, high-third, other-second, other-first, found-at}
+use Rattle.bpg_nal_escape.proofs.PatternLaws.{past-end, other-second, other-first, found-at}
 use Rattle.bpg_nal_escape.proofs.pattern.next.Statement.{statement}
 use Rattle.bpg_nal_escape.proofs.pattern.next.Tie as tie
 
@@ -15,19 +15,25 @@ Inv-loop bytes end last i₀ i = offsetFrom startsPattern bytes i₀ ≡ offsetF
 abbrev μ-loop : tie.MeasureT-loop
 μ-loop bytes end last i₀ i = length bytes - i
 
-loop-again : tie.Need-loop-again Inv-loop μ-loop
-loop-again c = c .before .before .before .loop .inv ∙ high-third _ _ (omega arith) (c .if2 .taken)
-
-loop-again-2 : tie.Need-loop-again-2 Inv-loop μ-loop
-loop-again-2 c = c .before .before .before .before .before .loop .inv ∙ other-second _ _ (omega arith) (c .if3 .taken)
-
-loop-again-3 : tie.Need-loop-again-3 Inv-loop μ-loop
-loop-again-3 c = c .before .before .before .before .before .before .before .loop .inv ∙ other-first _ _ (omega arith) (c .if4 .taken)
+-- up to where the third byte is low
+reached : (c : tie.After-past-high Inv-loop μ-loop) → let b = c .before .before .before .before .args .bytes .now in
+    offsetFrom startsPattern b (c .before .before .before .before .args .from .0) ≡ offsetFrom startsPattern b (c .past-high .result)
+reached c = c .before .loop .inv ∙ c .past-high .ensures .1 .0
 
 returns-2 : tie.Need-returns-2 Inv-loop μ-loop
-returns-2 c =
-    let b = c .before .before in
-    found-at _ _ (omega arith) (b .before .before .if2 .left) (b .if3 .left) (c .if4 .left) ∙ sym (b .before .before .before .before .before .loop .inv)
+returns-2 c = past-end _ _ (omega arith) ∙ sym (reached (c .before))
+
+loop-again : tie.Need-loop-again Inv-loop μ-loop
+loop-again c = reached (c .before .before .before) ∙ other-second _ _ (omega arith) (c .if3 .taken)
+
+returns-3 : tie.Need-returns-3 Inv-loop μ-loop
+returns-3 c =
+    let e = c .before .before in
+    let p = e .before .before .before in
+    found-at _ _ (omega arith) (p .past-high .ensures .1 .1 (omega arith)) (e .if3 .left) (c .if4 .taken) ∙ sym (reached p)
+
+loop-again-2 : tie.Need-loop-again-2 Inv-loop μ-loop
+loop-again-2 c = reached (c .before .before .before .before .before) ∙ other-first _ _ (omega arith) (c .if4 .left)
 
 pub next-spec : {M : Type 1} → statement M
 next-spec =
@@ -38,19 +44,15 @@ next-spec =
     (λ c. past-end _ _ (omega arith))
     (λ c. omega arith)
     (λ c. refl)
+    (λ c κs. omega arith)
+    returns-2
     (λ c. omega arith)
     (λ c. omega arith)
     (λ c. omega arith)
     (λ c. omega arith)
     loop-again
     (λ c. omega arith)
+    returns-3
     (λ c. omega arith)
     (λ c. omega arith)
-    (λ c. omega arith)
-    loop-again-2
-    (λ c. omega arith)
-    (λ c. omega arith)
-    (λ c. omega arith)
-    loop-again-3
-    returns-2
-    (λ c. past-end _ _ (omega arith) ∙ sym (c .before .loop .inv)))
+    loop-again-2)
