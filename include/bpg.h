@@ -112,7 +112,11 @@ enum bpg_status {
     BPG_RANGE_OUTSIDE = 18,     /* writing: a range outside the source */
     BPG_INCONSISTENT = 19,      /* writing: an unused or absent field not 0, flags that contradict, loop numbers that are not those of the
                                    tag 5 payload, or a number that its field cannot hold */
-    BPG_BUFFER_TOO_SMALL = 20   /* the buffer, or the list of numbers */
+    BPG_BUFFER_TOO_SMALL = 20,  /* the buffer, or the list of numbers or durations */
+    BPG_BAD_NAL_UNIT = 22,      /* frames: a unit too short, its header, its emulation prevention or its SEI messages */
+    BPG_BAD_NAL_LAYER = 23,     /* frames: a layer above 1, layer 1 without alpha, or a VPS or SPS */
+    BPG_BAD_DURATION = 24,      /* frames: 0, two with no frame start between, or one with no frame after it */
+    BPG_BAD_FRAME_COUNT = 25    /* frames: a still file without exactly one, an animated one with fewer than two */
 };
 
 /* Reads a file. Success: status 0, the first 117 numbers are the reading's, the rest of the list is unchanged. A list shorter than 117 is
@@ -130,6 +134,21 @@ uint8_t bpg_write(const uint64_t *numbers, size_t numbers_len, const uint8_t *so
 /* Writes the canonical form of a file, which is never longer than the file, from the start of out; *count is its size, 0 if refused.
  * Refusals are those of bpg_read, with their *offset, then 20. */
 uint8_t bpg_canonicalize(const uint8_t *file, size_t file_len, uint8_t *out, size_t out_len, size_t *count, size_t *offset);
+
+/* For how many periods each frame of a file is shown, from the start of durations; *count is the number of frames, 0 if refused. Refusals
+ * are those of bpg_read, then 22 to 25, with their *offset, then 20 for a list that is shorter than the count. */
+uint8_t bpg_frames(const uint8_t *file, size_t file_len, uint16_t *durations, size_t durations_len, size_t *count, size_t *offset);
+
+/* The same answer without a list, so never 20: how long a list bpg_frames needs. */
+uint8_t bpg_frame_count(const uint8_t *file, size_t file_len, size_t *count, size_t *offset);
+
+/* Writes the bytes of a NAL unit without its emulation prevention bytes from the start of out; *count is their number, 0 if refused: 22 for
+ * a unit that breaks an emulation rule, then 20. */
+uint8_t bpg_unescape(const uint8_t *unit, size_t unit_len, uint8_t *out, size_t out_len, size_t *count);
+
+/* Writes the bytes with emulation prevention bytes, as they stand in a NAL unit, from the start of out; *count is their number, 0 if
+ * refused with 20. */
+uint8_t bpg_escape(const uint8_t *bytes, size_t bytes_len, uint8_t *out, size_t out_len, size_t *count);
 
 #ifdef __cplusplus
 }
