@@ -46,6 +46,34 @@ extern "C" {
         count: *mut usize,
         offset: *mut usize,
     ) -> u8;
+    fn bpg_frames(
+        file: *const u8,
+        file_len: usize,
+        durations: *mut u16,
+        durations_len: usize,
+        count: *mut usize,
+        offset: *mut usize,
+    ) -> u8;
+    fn bpg_frame_count(
+        file: *const u8,
+        file_len: usize,
+        count: *mut usize,
+        offset: *mut usize,
+    ) -> u8;
+    fn bpg_unescape(
+        unit: *const u8,
+        unit_len: usize,
+        out: *mut u8,
+        out_len: usize,
+        count: *mut usize,
+    ) -> u8;
+    fn bpg_escape(
+        bytes: *const u8,
+        bytes_len: usize,
+        out: *mut u8,
+        out_len: usize,
+        count: *mut usize,
+    ) -> u8;
 }
 
 /// Status and offset; on success the reading stands in the first [`NUMBERS`] of `numbers`.
@@ -110,4 +138,57 @@ pub fn canonicalize(file: &[u8], out: &mut [u8]) -> (u8, usize, usize) {
         )
     };
     (status, count, offset)
+}
+
+/// Status, count and offset; on success that many durations stand at the start of `durations`.
+pub fn frames(file: &[u8], durations: &mut [u16]) -> (u8, usize, usize) {
+    let [mut count, mut offset] = [UNSET; 2];
+    let status = unsafe {
+        bpg_frames(
+            file.as_ptr(),
+            file.len(),
+            durations.as_mut_ptr(),
+            durations.len(),
+            &mut count,
+            &mut offset,
+        )
+    };
+    (status, count, offset)
+}
+
+/// Status, count and offset.
+pub fn frame_count(file: &[u8]) -> (u8, usize, usize) {
+    let [mut count, mut offset] = [UNSET; 2];
+    let status = unsafe { bpg_frame_count(file.as_ptr(), file.len(), &mut count, &mut offset) };
+    (status, count, offset)
+}
+
+/// Status and count; on success that many bytes stand at the start of `out`.
+pub fn unescape(unit: &[u8], out: &mut [u8]) -> (u8, usize) {
+    let mut count = UNSET;
+    let status = unsafe {
+        bpg_unescape(
+            unit.as_ptr(),
+            unit.len(),
+            out.as_mut_ptr(),
+            out.len(),
+            &mut count,
+        )
+    };
+    (status, count)
+}
+
+/// Status and count; on success that many bytes stand at the start of `out`.
+pub fn escape(bytes: &[u8], out: &mut [u8]) -> (u8, usize) {
+    let mut count = UNSET;
+    let status = unsafe {
+        bpg_escape(
+            bytes.as_ptr(),
+            bytes.len(),
+            out.as_mut_ptr(),
+            out.len(),
+            &mut count,
+        )
+    };
+    (status, count)
 }

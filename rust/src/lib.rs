@@ -151,6 +151,63 @@ pub fn canonicalize(file: &[u8], out: &mut [u8]) -> Result<usize, Refusal> {
     Ok(count)
 }
 
+/// How many frames a file has.
+///
+/// ```
+/// // File A of the examples, with a byte of slice data: one frame. Without it the slice is empty.
+/// let file = *b"BPG\xFB\x20\x00\x08\x84\x1E\x00\x03\x92\x4D\x00\x26\x01\x80";
+/// assert_eq!(bpg::frame_count(&file), Ok(1));
+/// let refusal = bpg::frame_count(&file[..16]).unwrap_err();
+/// assert_eq!((refusal.number(), refusal.offset), (22, 14));
+/// ```
+pub fn frame_count(file: &[u8]) -> Result<usize, Refusal> {
+    let (status, count, offset) = ffi::frame_count(file);
+    answer(status, offset)?;
+    Ok(count)
+}
+
+/// For how many frame periods each frame of a file is shown.
+///
+/// ```
+/// let file = *b"BPG\xFB\x20\x00\x08\x84\x1E\x00\x03\x92\x4D\x00\x26\x01\x80";
+/// assert_eq!(bpg::frames(&file)?, [1]);
+/// # Ok::<(), bpg::Refusal>(())
+/// ```
+pub fn frames(file: &[u8]) -> Result<Vec<u16>, Refusal> {
+    let mut durations = vec![0; frame_count(file)?];
+    let (status, _, offset) = ffi::frames(file, &mut durations);
+    answer(status, offset)?;
+    Ok(durations)
+}
+
+/// Writes the bytes of a NAL unit without its emulation prevention bytes and answers how many there
+/// are: at most as many as the unit has. The rest of `out` is unchanged.
+///
+/// ```
+/// let mut out = [0xA5; 5];
+/// assert_eq!(bpg::unescape(&[0x26, 0x00, 0x00, 0x03, 0x01], &mut out), Ok(4));
+/// assert_eq!(out, [0x26, 0x00, 0x00, 0x01, 0xA5]);
+/// ```
+pub fn unescape(unit: &[u8], out: &mut [u8]) -> Result<usize, Refusal> {
+    let (status, count) = ffi::unescape(unit, out);
+    answer(status, 0)?;
+    Ok(count)
+}
+
+/// Writes the bytes with emulation prevention bytes, as they stand in a NAL unit, and answers how many
+/// there are. The rest of `out` is unchanged.
+///
+/// ```
+/// let mut out = [0; 9];
+/// assert_eq!(bpg::escape(&[0; 6], &mut out), Ok(9));
+/// assert_eq!(out, [0, 0, 3, 0, 0, 3, 0, 0, 3]);
+/// ```
+pub fn escape(bytes: &[u8], out: &mut [u8]) -> Result<usize, Refusal> {
+    let (status, count) = ffi::escape(bytes, out);
+    answer(status, 0)?;
+    Ok(count)
+}
+
 /// A status of the library as a result; 0 is success.
 fn answer(status: u8, offset: usize) -> Result<(), Refusal> {
     if status == 0 {

@@ -53,10 +53,14 @@ reasons! {
     18 RangeOutside "a range of the record lies outside the source",
     19 Inconsistent "an unused or absent field of the record is not zero, or its fields contradict each other",
     20 BufferTooSmall "the buffer is too small",
+    22 BadNalUnit "a NAL unit is too short, or its header, emulation prevention or SEI messages are wrong",
+    23 BadNalLayer "a NAL unit has a layer above 1, layer 1 without alpha, or is a VPS or SPS",
+    24 BadDuration "a frame duration is 0, is the second for its frame, or has no frame after it",
+    25 BadFrameCount "a still file has not exactly one frame, or an animated one fewer than two",
 }
 
 impl Reason {
-    /// The refusal's number, 1 to 20.
+    /// The refusal's number.
     pub fn number(self) -> u8 {
         self as u8
     }
@@ -81,7 +85,7 @@ pub struct Refusal {
 }
 
 impl Refusal {
-    /// The refusal's number, 1 to 20.
+    /// The refusal's number.
     pub fn number(self) -> u8 {
         self.reason.number()
     }
