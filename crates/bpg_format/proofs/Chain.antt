@@ -24,12 +24,12 @@ use Rattle.bpg_format.specs.declared.record.Header.{Header}
 use Rattle.bpg_format.specs.Zero.{zeroHeader}
 use Rattle.bpg_format.specs.Content.{Flags, Extension, AnimationControl, hasAlpha, bitDepth}
 use Rattle.bpg_format.specs.Rules.{hasAnimation, noAnimation}
-use Rattle.bpg_format.specs.Tests.{countsToEnd}
+use Rattle.bpg_format.specs.Tests.{countsToEnd, dataAllowed}
 use Rattle.bpg_format.specs.Read.{ifPresent, readFlags, Head, readHead, readAnimation, readEntry, readEntries, readBlock, oneFlag, nineFlags, readFields}
 use Rattle.bpg_format.specs.Read.{readHeader, readAlphaHeader, readBody, readContent}
 use Rattle.bpg_format.specs.FileCodec.{flags, dimension, period, animationCodec, payload, extension, seenAfter, extensions, block, oneBit, optional}
 use Rattle.bpg_format.specs.FileCodec.{SizeFields, sizeFields, PcmFields, pcmFields, spsFields, noPcm, noSps, FieldTuple, fieldSequence, headerFrom}
-use Rattle.bpg_format.specs.FileCodec.{headerFields, header, alphaHeader, body, judgedBody, parts, withLoop, file}
+use Rattle.bpg_format.specs.FileCodec.{headerFields, header, alphaHeader, hevcBytes, body, judgedBody, parts, withLoop, file}
 
 -- ---- the extension block
 
@@ -173,15 +173,16 @@ headRest l =
     } in
     ok (decoded head (ext .next) (ext .rest))
 
--- 14, then 10, the headers and the data
+-- 14, then 10, the headers, 26, the data
 judged-then : {A : Type 0} (f : Flags) (n : ℕ) (es : List Extension) (i p : ℕ) (l : List ℕ) (k : Header × (Header × List ℕ) → Outcome A)
     → (judgedBody f n es .decode i p l >>= k)
     ≡ (guard (not (f .animation) || hasAnimation es) 14 5 >>= λ _.
     guard (countsToEnd n (length l)) 10 i >>= λ _.
     readAlphaHeader f p l >>= λ alpha.
     readHeader (bitDepth f) (alpha .next) (alpha .rest) >>= λ color.
+    guard (dataAllowed (color .rest)) 26 (color .next) >>= λ _.
     k (alpha .value, (color .value, color .rest)))
-unfolding judgedBody guardedRegion body thenRest rest
+unfolding judgedBody guardedRegion body hevcBytes thenRest rest
 judged-then f n es i p l k = simp (bind-assoc, alpha-chain, header-chain)
 
 in-parts : (l : List ℕ) → file .decode 0 0 l ≡ (guard (leb (length l) maxFile) 1 0 >>= λ _. headRest l >>= λ x. readBody (x .value) (x .rest))

@@ -8,7 +8,7 @@ use Rattle.bpg_codec.specs.Bits.{bits, unpack, pack, padded}
 use Rattle.bpg_ue7.specs.Ue7.{groups, ue7Bytes, ue7Rest, ue7Decode}
 use Rattle.bpg_bits.specs.BitNumbers.{prefixDecode, expGolombBits}
 use Rattle.bpg_format.specs.Syntax.{extensionPart, headerBits, headerBytes, headersAndData, dataLength, fileOf}
-use Rattle.bpg_format.specs.Tests.{noForbiddenBit, pcmAllowed, hevcAllowed}
+use Rattle.bpg_format.specs.Tests.{noForbiddenBit, pcmAllowed, hevcAllowed, dataAllowed}
 use Rattle.bpg_format.specs.Read.{readFlags, readHead, readAnimation, animationOf, readEntry, readEntries, readBlock, readFields, readHeader, readAlphaHeader, readBody, readContent}
 use Rattle.bpg_format.specs.Records.{extensionLengthStart, blockStart, dataStart, recordOf, contentOf, readFile}
 use Rattle.bpg_format.specs.Parts.{entryOf}
@@ -37,9 +37,9 @@ pub record Answers : Type 0 where
   pub c-count : canonicalFile fileC (replicate 22 0) .count ≡ 22
 
 computed : All Holds examples × Answers
-unfolding select bits unpack pack padded groups ue7Bytes ue7Rest ue7Decode leadingZeros prefixDecode expGolombBits extensionPart headerBits headerBytes headersAndData dataLength fileOf noForbiddenBit pcmAllowed hevcAllowed readFlags readHead readAnimation animationOf readEntry readEntries readBlock readFields readHeader readAlphaHeader readBody readContent extensionLengthStart blockStart dataStart recordOf readFile pictureOf withChoices canonicalContent canonicalBytes canonicalOutcome canonicalBuffer rangesInSource unusedZero absentZero headerZero consistent checkAnimation checkEntries fieldsCoded checkHeader checkContent sizedFile checkRecord writeOutcome writeFile writeBuffer contentOf entryOf canonicalFile
+unfolding select bits unpack pack padded groups ue7Bytes ue7Rest ue7Decode leadingZeros prefixDecode expGolombBits extensionPart headerBits headerBytes headersAndData dataLength fileOf noForbiddenBit pcmAllowed hevcAllowed dataAllowed readFlags readHead readAnimation animationOf readEntry readEntries readBlock readFields readHeader readAlphaHeader readBody readContent extensionLengthStart blockStart dataStart recordOf readFile pictureOf withChoices canonicalContent canonicalBytes canonicalOutcome canonicalBuffer rangesInSource unusedZero absentZero headerZero consistent checkAnimation checkEntries fieldsCoded checkHeader checkContent sizedFile checkRecord writeOutcome writeFile writeBuffer contentOf entryOf canonicalFile
 computed = (
-  (refl, (refl, (refl, (refl, (refl, (refl, (refl, (refl, (refl, (refl, (refl, (refl, ((refl, refl), ((refl, refl), (refl, (refl, tt)))))))))))))))),
+  (refl, (refl, (refl, (refl, (refl, (refl, (refl, (refl, (refl, (refl, (refl, (refl, ((refl, refl), ((refl, refl), (refl, (refl, (refl, (refl, (refl, (refl, tt)))))))))))))))))))),
   record {
     a-reads = refl;
     a-data-length = refl;

@@ -26,10 +26,10 @@ use Rattle.bpg_format.specs.declared.record.Header.{Header}
 use Rattle.bpg_format.specs.Zero.{zeroHeader}
 use Rattle.bpg_format.specs.Content.{Flags, Extension, AnimationControl, Content, hasAlpha, bitDepth}
 use Rattle.bpg_format.specs.Rules.{hasAnimation}
-use Rattle.bpg_format.specs.Tests.{countsToEnd, noForbiddenBit, hevcAllowed}
+use Rattle.bpg_format.specs.Tests.{countsToEnd, noForbiddenBit, hevcAllowed, dataAllowed}
 use Rattle.bpg_format.specs.Read.{animationOf}
 use Rattle.bpg_format.specs.FileCodec.{flags, dimension, period, animationCodec, payload, extension, seenAfter, extensions, block, oneBit, optional}
-use Rattle.bpg_format.specs.FileCodec.{sizeFields, pcmFields, spsFields, noPcm, noSps, fieldSequence, headerFields, header, alphaHeader, body, judgedBody}
+use Rattle.bpg_format.specs.FileCodec.{sizeFields, pcmFields, spsFields, noPcm, noSps, fieldSequence, headerFields, header, alphaHeader, hevcBytes, body, judgedBody}
 use Rattle.bpg_format.specs.FileCodec.{Parts, parts, withLoop, contentFrom, partsOf, file}
 use Rattle.bpg_format.proofs.FlagLaws.{flags-lawful}
 
@@ -116,9 +116,13 @@ alphaHeader-lawful : (f : Flags) → Lawful Byte (alphaHeader f)
 unfolding alphaHeader
 alphaHeader-lawful f = select-lawful (hasAlpha f) (header-lawful (bitDepth f)) (absent-lawful Byte zeroHeader)
 
+data-lawful : ExactLawful Byte hevcBytes
+unfolding hevcBytes
+data-lawful = guardedRegion-lawful dataAllowed 26 atOwn (rest-lawful Byte)
+
 pub body-lawful : (f : Flags) → ExactLawful Byte (body f)
 unfolding body
-body-lawful f = thenRest-lawful (alphaHeader-lawful f) λ _. thenRest-lawful (header-lawful (bitDepth f)) λ _. rest-lawful Byte
+body-lawful f = thenRest-lawful (alphaHeader-lawful f) λ _. thenRest-lawful (header-lawful (bitDepth f)) λ _. data-lawful
 
 judged-lawful : (f : Flags) (n : ℕ) (es : List Extension) → ExactLawful Byte (judgedBody f n es)
 unfolding judgedBody

@@ -5,6 +5,7 @@ pub mod FileLaws
 pub mod Chain
 pub mod SyntaxLaws
 pub mod HeaderRuleLaws
+pub mod DataRuleLaws
 pub mod RuleLaws
 pub mod ReadingRefusals
 pub mod ReadingLaws

@@ -25,11 +25,11 @@ use Rattle.bpg_format.specs.Zero.{zeroHeader}
 use Rattle.bpg_format.specs.Content.{Flags, Extension, hasAlpha, bitDepth}
 use Rattle.bpg_format.specs.Syntax.{magic}
 use Rattle.bpg_format.specs.Rules.{hasAnimation}
-use Rattle.bpg_format.specs.Tests.{colorSpaceAllowed, countsToEnd, noForbiddenBit, hevcAllowed}
+use Rattle.bpg_format.specs.Tests.{colorSpaceAllowed, countsToEnd, noForbiddenBit, hevcAllowed, dataAllowed}
 use Rattle.bpg_format.specs.Read.{flagsOf, readFlags, readAnimation, animationOf, readContent, ReadingStatus}
 use Rattle.bpg_format.specs.FileCodec.{flags, dimension, period, animationCodec, payload, extension, seenAfter, extensions, block, oneBit, optional}
 use Rattle.bpg_format.specs.FileCodec.{sizeFields, pcmFields, spsFields, noPcm, noSps, fieldSequence, headerFrom, fieldsOf, headerFields, header}
-use Rattle.bpg_format.specs.FileCodec.{alphaHeader, body, judgedBody, Parts, parts, withLoop, contentFrom, partsOf, file}
+use Rattle.bpg_format.specs.FileCodec.{alphaHeader, hevcBytes, body, judgedBody, Parts, parts, withLoop, contentFrom, partsOf, file}
 use Rattle.bpg_format.proofs.Chain.{animationOfNumbers, loop-chain, content-chain}
 
 abbrev pub Numbered : (status offset : ℕ) → Type 0
@@ -113,10 +113,10 @@ header-refuses depth =
     (item-refuses Numbered (sized-refuses Numbered 2 (λ _. tt) (number 32) (packed-refuses Numbered 15 (λ _. tt) fields-refuse))))
 
 body-refuses : (f : Flags) → E (body f)
-unfolding body alphaHeader
+unfolding body alphaHeader hevcBytes
 body-refuses f =
     thenRest-refuses Numbered (select-refuses Numbered (hasAlpha f) (header-refuses (bitDepth f)) (absent-refuses Numbered zeroHeader)) λ _.
-    thenRest-refuses Numbered (header-refuses (bitDepth f)) λ _. rest-refuses Numbered Byte
+    thenRest-refuses Numbered (header-refuses (bitDepth f)) λ _. guardedRegion-refuses Numbered dataAllowed 26 atOwn (λ _. tt) (rest-refuses Numbered Byte)
 
 judged-refuses : (f : Flags) (n : ℕ) (es : List Extension) → E (judgedBody f n es)
 unfolding judgedBody

@@ -26,11 +26,12 @@ use Rattle.bpg_format.specs.Rules.{AnimationPayload, isAnimation, Extens
 use Rattle.bpg_format.specs.Tests.{countsToEnd}
 use Rattle.bpg_format.specs.Read.{readAnimation, animationFrom, animationOf}
 use Rattle.bpg_format.specs.FileCodec.{FlagsRules, flags, dimension, period, animationCodec, payload, extension, seenAfter, extensions, block, alphaHeader}
-use Rattle.bpg_format.specs.FileCodec.{body, judgedBody, parts, withLoop, lengthOf, file}
+use Rattle.bpg_format.specs.FileCodec.{hevcBytes, body, judgedBody, parts, withLoop, lengthOf, file}
 use Rattle.bpg_format.proofs.FileLaws.{loopNumbers-lawful}
 use Rattle.bpg_format.proofs.Chain.{Numbers, animationOfNumbers, loop-chain}
 use Rattle.bpg_format.proofs.SyntaxLaws.{payload-encode, each-encode, length-encode, file-encode}
 use Rattle.bpg_format.proofs.HeaderRuleLaws.{unless-full, passed, passes, by-flag, opt-present, opt-absent, opt-valid, header-sound, header-full}
+use Rattle.bpg_format.proofs.DataRuleLaws.{data-sound, data-full}
 
 pub bool-apart {ℓ} : {P : Type ℓ} {b : Bool} → b ≡ true → b ≡ false → P
 bool-apart e f = absurd (let z : _≡_ {A = ℕ} 0 1 = cc in omega arith)
@@ -246,14 +247,14 @@ module _ (c : Content) where
 -- ---- the file
 
 pub file-sound : (c : Content) → file .Valid c → Rules c
-unfolding file mappedExact withLoop derived parts judgedBody guardedRegion thenRest itemThenRest flags dimension guarded block body alphaHeader rest
+unfolding file mappedExact withLoop derived parts judgedBody guardedRegion thenRest itemThenRest flags dimension guarded block body hevcBytes alphaHeader rest
 file-sound c v =
     let each = block-sound (c .flags .extensionPresent) (c .extensions) (v .0 .1 .1 .1 .1 .1 .0) in
     let entries = entries-sound false (c .extensions) (each .0) (c .control) (λ _. v .1) in
     let one = one-sound false (c .extensions) (each .0) in
     let no-animation : hasAnimation (c .extensions) ≡ false → c .control ≡ noAnimation = λ h. v .1 ∙ loop-none (c .extensions) h in
     let size : length (fileOf c) ≤ maxFile = rw (← file-encode c) (leb→le _ _ (v .0 .0)) in
-    search (passed, is-true, eqb-no, flags-sound, opt-absent, opt-present, header-sound)
+    search (passed, is-true, eqb-no, flags-sound, opt-absent, opt-present, header-sound, data-sound)
 
 counts : (b : Bool) (size : ℕ) → T (countsToEnd (select b size 0) size)
 unfolding select
@@ -286,9 +287,9 @@ module _ (c : Content) (r : Rules c) where
   depth-most = omega (arith, r .bit-depth)
 
 pub file-full : (c : Content) → Rules c → file .Valid c
-unfolding file mappedExact withLoop derived parts judgedBody guardedRegion thenRest itemThenRest flags dimension guarded body alphaHeader rest
+unfolding file mappedExact withLoop derived parts judgedBody guardedRegion thenRest itemThenRest flags dimension guarded body hevcBytes alphaHeader rest
 file-full c r =
     let es = entries-full false (c .extensions) (c .control) (r .entries) (r .one-animation) (λ e. bool-apart e refl) (block-fits c r) in
     let block = block-full (c .flags .extensionPresent) (c .extensions) (r .absent-block) es (r .entry-limit) (block-fits c r) in
     let loop : T (not (c .flags .animation) || hasAnimation (c .extensions)) = unless-full _ _ (λ a. rw (r .animated a) tt) in
-    search (fits, flags-full, no-eqb, length-fits, counts, opt-valid, header-full, depth-most, alpha-fits, r .alpha-header, color-fits, loop-is) depth 18
+    search (fits, flags-full, no-eqb, length-fits, counts, opt-valid, header-full, depth-most, alpha-fits, r .alpha-header, color-fits, data-full, loop-is) depth 18

@@ -17,7 +17,7 @@ use Rattle.bpg_format.specs.Content.{Extension, Content, hasAlpha, bitDe
 use Rattle.bpg_format.specs.Syntax.{extensionBytes, blockBytes, extensionPart, pcmBits, spsExtensionBits, headerBits, headerBytes, headersAndData, dataLength}
 use Rattle.bpg_format.specs.Syntax.{fileOf}
 use Rattle.bpg_format.specs.FileCodec.{flags, dimension, payload, extension, seenAfter, extensions, block, oneBit, optional, SizeFields, sizeFields}
-use Rattle.bpg_format.specs.FileCodec.{pcmFields, spsFields, noPcm, noSps, fieldSequence, sizesOf, pcmOf, headerFields, header, alphaHeader, body}
+use Rattle.bpg_format.specs.FileCodec.{pcmFields, spsFields, noPcm, noSps, fieldSequence, sizesOf, pcmOf, headerFields, header, alphaHeader, hevcBytes, body}
 use Rattle.bpg_format.specs.FileCodec.{judgedBody, parts, lengthOf, withLoop, file}
 
 -- ---- the extension block
@@ -99,7 +99,7 @@ alpha-encode false depth h = refl
 -- ---- the file
 
 pub body-encode : (c : Content) → body (c .flags) .encode (c .alphaHeader, (c .colorHeader, c .hevcData)) ≡ headersAndData c
-unfolding body thenRest alphaHeader rest headersAndData
+unfolding body thenRest alphaHeader hevcBytes guardedRegion rest headersAndData
 body-encode c = rw (alpha-encode (hasAlpha (c .flags)) (bitDepth (c .flags)) (c .alphaHeader), header-encode (bitDepth (c .flags)) (c .colorHeader))
 
 pub length-encode : (c : Content) → lengthOf c ≡ dataLength c

@@ -13,7 +13,7 @@ use Rattle.bpg_codec.specs.Select.{select}
 use Rattle.bpg_codec.specs.Outcome.{Outcome, ok, _>>=_}
 use Rattle.bpg_codec.specs.Lawful.{All, Byte}
 use Rattle.bpg_codec.proofs.Select.{select-true, is-true, and-both, and-left, and-right}
-use Rattle.bpg_codec.proofs.Outcome.{ok-injective, unbind, unguard}
+use Rattle.bpg_codec.proofs.Outcome.{ok-injective, unbind, unguard, guard-holds}
 use Rattle.bpg_codec.proofs.Tokens.{all-take, all-drop, all-replicate}
 use Rattle.bpg_ue7.specs.Ue7.{ue7Bytes, notZero}
 use Rattle.bpg_format.specs.Limits.{maxEntries, maxFile}
@@ -23,11 +23,12 @@ use Rattle.bpg_format.specs.Zero.{zeroEntry, zeroHeader}
 use Rattle.bpg_format.specs.Content.{isEmpty, Extension, Content, hasAlpha, bitDepth}
 use Rattle.bpg_format.specs.Syntax.{blockBytes, fileOf}
 use Rattle.bpg_format.specs.Rules.{HeaderRules, hasAnimation, noAnimation, Rules}
-use Rattle.bpg_format.specs.Tests.{colorSpaceAllowed}
+use Rattle.bpg_format.specs.Tests.{colorSpaceAllowed, dataAllowed}
 use Rattle.bpg_format.specs.Records.{entriesAt, blockStart, recordOf, extensionOf, usedEntries, contentOf}
 use Rattle.bpg_format.specs.Write.{inSource, entriesInSource, rangesInSource, isZero, zeroEntries, unusedZero, absentZero, sameAnimation, consistent, checkEntries}
 use Rattle.bpg_format.specs.Write.{checkHeader, checkContent, checkRecord, sizedFile, writeOutcome, Typed, Writable}
 use Rattle.bpg_format.proofs.HeaderRuleLaws.{unless-full, passed, by-flag}
+use Rattle.bpg_format.proofs.DataRuleLaws.{data-sound, data-full}
 use Rattle.bpg_format.proofs.RuleLaws.{bool-apart, by-tag, flags-sound, flags-full, entry-size}
 use Rattle.bpg_format.proofs.RecordLaws.{used-entries, entries-length, content-record}
 use Rattle.bpg_format.proofs.RangeLaws.{start-after, data-end}
@@ -89,7 +90,9 @@ content-checked c h k e s =
     let es = entries-checked (c .control) false (c .extensions) (h .extensions) e6 in
     let alpha : hasAlpha (c .flags) ≡ true → HeaderRules (bitDepth (c .flags)) (c .alphaHeader) =
     λ f. header-checked (c .alphaHeader) _ (sym (select-true _ _ f) ∙ e9) (a .alpha) (h .alpha-nine) in
-    let color = header-checked (c .colorHeader) _ e10 (a .color) (h .color-nine) in
+    unbind (checkHeader (bitDepth (c .flags)) (c .colorHeader)) _ e10 λ w e11 e12.
+    let color = header-checked (c .colorHeader) _ e11 (a .color) (h .color-nine) in
+    let start = data-sound (c .hevcData) (guard-holds (dataAllowed (c .hevcData)) 26 0 e12) in
     search (passed, is-true, eqb-no, flags-sound)
 
 content-passes : (c : Content) → Rules c → checkContent c ≡ ok tt
@@ -106,8 +109,9 @@ content-passes c r =
       entries-pass (c .control) false (c .extensions) (r .entries) (r .one-animation) (λ e. bool-apart e refl),
       is-true (not (c .flags .animation) || hasAnimation (c .extensions)) (unless-full (c .flags .animation) (hasAnimation (c .extensions)) (λ a. rw (r .animated a) tt)),
       alpha,
+      header-passes (c .colorHeader) (bitDepth (c .flags)) (r .color-header),
+      is-true (dataAllowed (c .hevcData)) (data-full (c .hevcData) (r .data-start)),
     )
-    (header-passes (c .colorHeader) (bitDepth (c .flags)) (r .color-header))
 
 -- ---- the record
 

@@ -15,7 +15,7 @@ use Rattle.bpg_format.specs.Limits.{maxEntries, maxFile}
 use Rattle.bpg_format.specs.Content.{Extension, AnimationControl, Content, hasAlpha, bitDepth}
 use Rattle.bpg_format.specs.Syntax.{fileOf}
 use Rattle.bpg_format.specs.Rules.{isAnimation, hasAnimation}
-use Rattle.bpg_format.specs.Tests.{colorSpaceAllowed, noForbiddenBit, hevcAllowed}
+use Rattle.bpg_format.specs.Tests.{colorSpaceAllowed, noForbiddenBit, hevcAllowed, dataAllowed}
 use Rattle.bpg_format.specs.Read.{readAnimation}
 use Rattle.bpg_format.specs.Records.{contentOf}
 use Rattle.bpg_format.specs.Write.{rangesInSource, unusedZero, consistent, sameAnimation, atZero, checkAnimation, checkEntries, fieldsCoded, checkHeader}
@@ -72,7 +72,8 @@ content-check c =
     rule (not (c .flags .animation) || hasAnimation (c .extensions)) 14 _ (tt, refl)
     (refuses-bind AtZero (select (hasAlpha (c .flags)) (checkHeader (bitDepth (c .flags)) (c .alphaHeader)) (ok tt)) _
     (refuses-select AtZero (hasAlpha (c .flags)) _ _ (header-check (bitDepth (c .flags)) (c .alphaHeader)) (refuses-ok AtZero tt)) λ _.
-    header-check (bitDepth (c .flags)) (c .colorHeader)))))))
+    refuses-bind AtZero (checkHeader (bitDepth (c .flags)) (c .colorHeader)) _ (header-check (bitDepth (c .flags)) (c .colorHeader)) λ _.
+    last-rule (dataAllowed (c .hevcData)) 26 (tt, refl)))))))
 
 pub record-check : (r : Record) (source : List ℕ) → R (checkRecord r source)
 unfolding checkRecord

@@ -1,4 +1,4 @@
--- Document 01's worked examples that are to be proved ("The desk's examples"): one table. `proofs/Examples` proves the one claim that each
+-- Document 01's worked examples that are to be proved ("The desk's examples"), and those of refusal 26 (request 2/13): one table. `proofs/Examples` proves the one claim that each
 -- holds, by computation.
 use mathlib.Core.Path.{_≡_}
 use mathlib.Core.Bool.{Bool, true, false}
@@ -23,6 +23,10 @@ fileStart = 0x42 ∷ 0x50 ∷ 0x47 ∷ 0xFB ∷ 0x20 ∷ []
 
 abbrev pub hevc : List ℕ
 hevc = 0x03 ∷ 0x92 ∷ 0x4D ∷ 0x00 ∷ 0x26 ∷ 0x01 ∷ []
+
+-- A's head and header, with other data
+abbrev pub fileWith : (hevcData : List ℕ) → List ℕ
+fileWith l = fileStart ++ (0x00 ∷ 0x08 ∷ 0x84 ∷ 0x1E ∷ 0x00 ∷ 0x03 ∷ 0x92 ∷ 0x4D ∷ 0x00 ∷ l)
 
 abbrev pub fileA : List ℕ
 fileA = fileStart ++ (0x00 ∷ 0x08 ∷ 0x84 ∷ 0x1E ∷ 0x00 ∷ hevc)
@@ -142,4 +146,8 @@ examples =
     ∷ canonicalizes fileAExtended fileA
     ∷ reads fileC readingC
     ∷ reads fileCShort (refusedReading 2 15)
+    ∷ reads (fileWith []) (refusedReading 26 14)
+    ∷ reads (fileWith (0x00 ∷ 0x00 ∷ 0x01 ∷ 0x26 ∷ [])) (refusedReading 26 14)
+    ∷ reads (fileWith (0x00 ∷ 0x00 ∷ 0x00 ∷ 0x01 ∷ [])) (refusedReading 26 14)
+    ∷ reads (fileWith (0x00 ∷ 0x00 ∷ [])) readingA
     ∷ []

@@ -21,7 +21,7 @@ use Rattle.bpg_format.specs.Zero.{zeroHeader}
 use Rattle.bpg_format.specs.Content.{Flags, Extension, AnimationControl, Content, hasAlpha, bitDepth}
 use Rattle.bpg_format.specs.Syntax.{magic, byte4, byte5}
 use Rattle.bpg_format.specs.Rules.{isAnimation, hasAnimation}
-use Rattle.bpg_format.specs.Tests.{colorSpaceAllowed, countsToEnd, noForbiddenBit, hevcAllowed}
+use Rattle.bpg_format.specs.Tests.{colorSpaceAllowed, countsToEnd, noForbiddenBit, hevcAllowed, dataAllowed}
 use Rattle.bpg_format.specs.Read.{readFlags, animationOf}
 
 -- ---- items 1 and 2: magic, byte 4, byte 5
@@ -206,9 +206,13 @@ header depth =
 unfoldable pub alphaHeader : Flags → Codec ℕ Header
 alphaHeader f = select (hasAlpha f) (header (bitDepth f)) (absent zeroHeader)
 
+-- item 7; 26 at its first byte
+unfoldable pub hevcBytes : Exact ℕ (List ℕ)
+hevcBytes = guardedRegion dataAllowed 26 atOwn (rest Byte)
+
 -- items 6 and 7
 unfoldable pub body : Flags → Exact ℕ (Header × (Header × List ℕ))
-body f = thenRest (alphaHeader f) λ _. thenRest (header (bitDepth f)) λ _. rest Byte
+body f = thenRest (alphaHeader f) λ _. thenRest (header (bitDepth f)) λ _. hevcBytes
 
 -- 14, then 10, before them
 unfoldable pub judgedBody : Flags → (dataLength : ℕ) → List Extension → Exact ℕ (Header × (Header × List ℕ))

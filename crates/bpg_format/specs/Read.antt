@@ -18,7 +18,7 @@ use Rattle.bpg_format.specs.Zero.{zeroHeader}
 use Rattle.bpg_format.specs.Content.{Flags, Extension, AnimationControl, Content, hasAlpha, bitDepth}
 use Rattle.bpg_format.specs.Syntax.{magic}
 use Rattle.bpg_format.specs.Rules.{isAnimation, hasAnimation, noAnimation}
-use Rattle.bpg_format.specs.Tests.{colorSpaceAllowed, countsToEnd, noForbiddenBit, hevcAllowed}
+use Rattle.bpg_format.specs.Tests.{colorSpaceAllowed, countsToEnd, noForbiddenBit, hevcAllowed, dataAllowed}
 
 -- what a flag leaves out has this value, and takes no bytes
 abbrev pub ifPresent : {S A : Type 0} → (present : Bool) (absent : A) → ((p : ℕ) → List S → Outcome (Decoded S A)) → (p : ℕ) → List S → Outcome (Decoded S A)
@@ -210,7 +210,7 @@ readAlphaHeader f p l = ifPresent (hasAlpha f) zeroHeader (readHeader (bitDepth 
 
 -- ---- the file
 
--- what follows the head: the block; 14, then 10; the headers; what is left is the data (item 7)
+-- what follows the head: the block; 14, then 10; the headers; what is left is the data (item 7), 26 at its first byte
 unfoldable pub readBody : Head → List ℕ → Outcome Content
 readBody h l =
     let body = drop (h .extensionLength) l in
@@ -219,6 +219,7 @@ readBody h l =
     guard (countsToEnd (h .dataLength) (length body)) 10 (h .dataLengthAt) >>= λ _.
     readAlphaHeader (h .flags) (h .end + h .extensionLength) body >>= λ alpha.
     readHeader (bitDepth (h .flags)) (alpha .next) (alpha .rest) >>= λ color.
+    guard (dataAllowed (color .rest)) 26 (color .next) >>= λ _.
     ok
     (record {
       flags = h .flags;
@@ -241,7 +242,7 @@ readContent l =
 
 -- the refusal numbers of reading: no other is given
 abbrev pub readingStatuses : List ℕ
-readingStatuses = 1 ∷ 2 ∷ 3 ∷ 4 ∷ 5 ∷ 6 ∷ 7 ∷ 8 ∷ 9 ∷ 10 ∷ 11 ∷ 12 ∷ 13 ∷ 14 ∷ 15 ∷ 16 ∷ 17 ∷ []
+readingStatuses = 1 ∷ 2 ∷ 3 ∷ 4 ∷ 5 ∷ 6 ∷ 7 ∷ 8 ∷ 9 ∷ 10 ∷ 11 ∷ 12 ∷ 13 ∷ 14 ∷ 15 ∷ 16 ∷ 17 ∷ 26 ∷ []
 
 abbrev pub ReadingStatus : ℕ → Type 0
 ReadingStatus s = T (member s readingStatuses)

@@ -5,7 +5,7 @@ use mathlib.Core.List.{List, [], _∷_, _++_}
 use mathlib.Core.Logic.{_≢_}
 use Prim.Native.Nat.{ℕ, _+_, _-_, _^_, _≤_, _<_}
 use lib.Dec.{eqb}
-use lib.ListN.{length, getD, replicate}
+use lib.ListN.{length, take, getD, replicate}
 use Rattle.bpg_codec.specs.Lawful.{All, Byte}
 use Rattle.bpg_ue7.specs.Ue7.{ue7Bytes}
 use Rattle.bpg_format.specs.Limits.{maxEntries, maxFile}
@@ -123,6 +123,14 @@ OneAnimation (e ∷ es) = (isAnimation e ≡ true → hasAnimation es ≡ false)
 abbrev pub noAnimation : AnimationControl
 noAnimation = record { count = 0; periodNum = 0; periodDen = 0 }
 
+-- ---- the HEVC data
+
+-- request 2/13 (refusal 26): it is not empty, and begins neither 00 00 01 nor 00 00 00 01
+pub record DataRules (l : List ℕ) : Type 0 where
+  pub not-empty : l ≢ []
+  pub no-start-code : take 3 l ≢ 0 ∷ 0 ∷ 1 ∷ []
+  pub no-long-start-code : take 4 l ≢ 0 ∷ 0 ∷ 0 ∷ 1 ∷ []
+
 -- ---- the file
 
 pub record Rules (c : Content) : Type 0 where
@@ -147,8 +155,9 @@ pub record Rules (c : Content) : Type 0 where
   pub no-alpha : hasAlpha (c .flags) ≡ false → c .alphaHeader ≡ zeroHeader
   pub alpha-header : hasAlpha (c .flags) ≡ true → HeaderRules (bitDepth (c .flags)) (c .alphaHeader)
   pub color-header : HeaderRules (bitDepth (c .flags)) (c .colorHeader)
-  -- the data, and the size of the file (1)
+  -- the data (26), and the size of the file (1)
   pub data-bytes : All Byte (c .hevcData)
+  pub data-start : DataRules (c .hevcData)
   pub size : length (fileOf c) ≤ maxFile
 
 -- a file is accepted when it is the syntax's file of a content that keeps the rules

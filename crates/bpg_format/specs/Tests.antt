@@ -1,8 +1,10 @@
 -- Document 01's rules on values as tests: reading and writing judge by them. `Rules` has the same rules as named facts.
 use mathlib.Core.Bool.{Bool, false, not, _&&_, _||_}
+use mathlib.Core.List.{List, [], _∷_}
 use Prim.Native.Nat.{ℕ, _+_}
 use lib.Dec.{leb, ltb, eqb}
-use lib.ListN.{getD}
+use lib.ListN.{take, getD}
+use Rattle.bpg_codec.specs.Lists.{same}
 use Rattle.bpg_format.specs.declared.record.Header.{Header}
 use Rattle.bpg_format.specs.Content.{Flags}
 use Rattle.bpg_format.specs.Rules.{minCbLog2SizeY, ctbLog2SizeY, minTbLog2SizeY, maxTbLog2SizeY, log2MinIpcmCbSizeY}
@@ -38,3 +40,7 @@ hevcAllowed depth h =
     && (leb (maxTbLog2SizeY h) (ctbLog2SizeY h)
     && (leb (h .«max_transform_hierarchy_depth_intra» + minTbLog2SizeY h) (ctbLog2SizeY h)
     && (not (h .«pcm_enabled_flag») || pcmAllowed depth h)))))
+
+-- refusal 26 (request 2/13): the data is not empty, and begins neither 00 00 01 nor 00 00 00 01
+unfoldable pub dataAllowed : List ℕ → Bool
+dataAllowed l = not (same l []) && (not (same (take 3 l) (0 ∷ 0 ∷ 1 ∷ [])) && not (same (take 4 l) (0 ∷ 0 ∷ 0 ∷ 1 ∷ [])))

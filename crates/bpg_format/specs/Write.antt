@@ -21,7 +21,7 @@ use Rattle.bpg_format.specs.Zero.{zeroEntry, zeroHeader, refusedWritten}
 use Rattle.bpg_format.specs.Content.{isEmpty, Extension, AnimationControl, Content, hasAlpha, bitDepth}
 use Rattle.bpg_format.specs.Syntax.{fileOf}
 use Rattle.bpg_format.specs.Rules.{isAnimation, hasAnimation, noAnimation, Rules}
-use Rattle.bpg_format.specs.Tests.{colorSpaceAllowed, noForbiddenBit, hevcAllowed}
+use Rattle.bpg_format.specs.Tests.{colorSpaceAllowed, noForbiddenBit, hevcAllowed, dataAllowed}
 use Rattle.bpg_format.specs.Read.{readAnimation}
 use Rattle.bpg_format.specs.Records.{usedEntries, contentOf}
 
@@ -136,7 +136,8 @@ checkContent c =
     checkEntries (c .control) false (c .extensions) >>= λ _.
     guard (not (c .flags .animation) || hasAnimation (c .extensions)) 14 0 >>= λ _.
     select (hasAlpha (c .flags)) (checkHeader (bitDepth (c .flags)) (c .alphaHeader)) (ok tt) >>= λ _.
-    checkHeader (bitDepth (c .flags)) (c .colorHeader)
+    checkHeader (bitDepth (c .flags)) (c .colorHeader) >>= λ _.
+    guard (dataAllowed (c .hevcData)) 26 0
 
 -- ---- what writing answers, and what stands in the buffer
 
@@ -175,7 +176,7 @@ writeBuffer r source out = writtenBuffer (writeOutcome (length out) r source) ou
 
 -- the refusal numbers of writing: no other is given
 abbrev pub writingStatuses : List ℕ
-writingStatuses = 1 ∷ 2 ∷ 4 ∷ 5 ∷ 6 ∷ 7 ∷ 8 ∷ 9 ∷ 11 ∷ 12 ∷ 13 ∷ 14 ∷ 15 ∷ 16 ∷ 17 ∷ 18 ∷ 19 ∷ 20 ∷ []
+writingStatuses = 1 ∷ 2 ∷ 4 ∷ 5 ∷ 6 ∷ 7 ∷ 8 ∷ 9 ∷ 11 ∷ 12 ∷ 13 ∷ 14 ∷ 15 ∷ 16 ∷ 17 ∷ 18 ∷ 19 ∷ 20 ∷ 26 ∷ []
 
 abbrev pub WritingStatus : ℕ → Type 0
 WritingStatus s = T (member s writingStatuses)

@@ -1,12 +1,14 @@
 // The record of a BPG file, the answers of the calls, and their zero values. specs/ has the format: what a file, a record and a
 // picture are, and what each call answers.
 mod answer;
+mod data;
 mod record;
 
 pub use answer::Reading;
 pub use answer::Written;
 pub use answer::reading_refused;
 pub use answer::written_refused;
+pub use data::data_allowed;
 pub use record::Entry;
 pub use record::Header;
 pub use record::MAX_ENTRIES;

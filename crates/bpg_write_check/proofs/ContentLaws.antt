@@ -8,16 +8,18 @@ use native.Mathlib.Omega.{arith}
 use lib.Dec.{leb, eqb}
 use lib.ListN.{getD}
 use borrow.Author.Tests.{eq-eqb, ne-eqb, le-leb, lt-leb, leb-true}
-use Rattle.bpg_codec.specs.Outcome.{Outcome, ok, _>>=_}
+use Rattle.bpg_codec.specs.Outcome.{Outcome, ok, _>>=_, guard}
+use Rattle.bpg_codec.specs.Select.{select}
 use Rattle.bpg_codec.proofs.Select.{select-true, select-false}
 use Rattle.bpg_codec.proofs.Outcome.{bind-assoc}
-use Rattle.bpg_codec.proofs.Refusals.{refuses-ok, refuses-select}
+use Rattle.bpg_codec.proofs.Refusals.{refuses-ok, refuses-bind, refuses-select}
 use Rattle.bpg_ue7.specs.Ue7.{notZero}
 use Rattle.bpg_format.specs.declared.record.Record.{Record}
 use Rattle.bpg_format.specs.Zero.{zeroHeader}
+use Rattle.bpg_format.specs.Content.{hasAlpha, bitDepth}
 use Rattle.bpg_format.specs.Rules.{hasAnimation}
-use Rattle.bpg_format.specs.Tests.{colorSpaceAllowed}
-use Rattle.bpg_format.specs.Records.{extensionOf, usedEntries, contentOf, recordAnimation}
+use Rattle.bpg_format.specs.Tests.{colorSpaceAllowed, dataAllowed}
+use Rattle.bpg_format.specs.Records.{bytesIn, extensionOf, usedEntries, contentOf, recordAnimation}
 use Rattle.bpg_format.specs.Write.{checkEntries, checkHeader, checkContent}
 use Rattle.bpg_format.proofs.WritingRefusals.{AtZero, R, rule, last-rule, header-check, entries-check}
 use Rattle.bpg_write_check.specs.Check.{statusOf, checkPicture, checkAlpha, checkHeaders}
@@ -121,6 +123,24 @@ module _ (r : Record) (source : List ℕ) where
     pub color-decides : (t : ℕ) → s ≡ 0 → t ≡ statusOf color → t ≡ statusOf (checkHeaders (contentOf r source))
     color-decides t z e = e ∙ sym (goes-on (checkAlpha depth r) (alpha-refuses depth r) color (sym is ∙ z)) ∙ sym (ap statusOf both-headers)
 
+headers-refuse : (r : Record) (source : List ℕ) → R (checkHeaders (contentOf r source))
+unfolding checkHeaders
+headers-refuse r source =
+    let c = contentOf r source in
+    let alpha = checkHeader (bitDepth (c .flags)) (c .alphaHeader) in
+    rule (not (c .flags .animation) || hasAnimation (c .extensions)) 14 _ (omega arith)
+    (refuses-bind AtZero (select (hasAlpha (c .flags)) alpha (ok tt)) _
+    (refuses-select AtZero (hasAlpha (c .flags)) alpha (ok tt) (header-check _ (c .alphaHeader)) (refuses-ok AtZero tt)) λ _.
+    header-check _ (c .colorHeader))
+
+-- ---- the data
+
+pub data-refused : (l : List ℕ) → dataAllowed l ≡ false → 26 ≡ statusOf (guard (dataAllowed l) 26 0)
+data-refused l e = rw e
+
+pub data-passes : (l : List ℕ) → dataAllowed l ≡ true → 0 ≡ statusOf (guard (dataAllowed l) 26 0)
+data-passes l e = rw e
+
 -- ---- all of it
 
 module _ (r : Record) (source : List ℕ) where
@@ -133,22 +153,34 @@ module _ (r : Record) (source : List ℕ) where
   abbrev headers : Outcome (Unit {0})
   headers = checkHeaders (contentOf r source)
 
-  in-parts : checkContent (contentOf r source) ≡ (picture >>= λ _. entries >>= λ _. headers)
+  abbrev bytes : Outcome (Unit {0})
+  bytes = guard (dataAllowed (bytesIn source (r .«data»))) 26 0
+
+  in-parts : checkContent (contentOf r source) ≡ (picture >>= λ _. entries >>= λ _. headers >>= λ _. bytes)
   unfolding checkContent checkPicture checkHeaders contentOf
   in-parts = simp bind-assoc
 
   module _ (s : ℕ) (is : s ≡ statusOf picture) where
     pub picture-stops : s ≢ 0 → s ≡ statusOf (checkContent (contentOf r source))
-    picture-stops z = is ∙ stops picture (λ _. entries >>= λ _. headers) (λ e. z (is ∙ e)) ∙ sym (ap statusOf in-parts)
+    picture-stops z = is ∙ stops picture (λ _. entries >>= λ _. headers >>= λ _. bytes) (λ e. z (is ∙ e)) ∙ sym (ap statusOf in-parts)
 
     module _ (z : s ≡ 0) where
-      after-picture : statusOf (checkContent (contentOf r source)) ≡ statusOf (entries >>= λ _. headers)
-      after-picture = ap statusOf in-parts ∙ goes-on picture (picture-refuses r source) (entries >>= λ _. headers) (sym is ∙ z)
+      after-picture : statusOf (checkContent (contentOf r source)) ≡ statusOf (entries >>= λ _. headers >>= λ _. bytes)
+      after-picture = ap statusOf in-parts ∙ goes-on picture (picture-refuses r source) (entries >>= λ _. headers >>= λ _. bytes) (sym is ∙ z)
 
       module _ (t : ℕ) (are : t ≡ statusOf entries) where
         pub entries-stop : t ≢ 0 → t ≡ statusOf (checkContent (contentOf r source))
-        entries-stop y = are ∙ stops entries (λ _. headers) (λ e. y (are ∙ e)) ∙ sym after-picture
+        entries-stop y = are ∙ stops entries (λ _. headers >>= λ _. bytes) (λ e. y (are ∙ e)) ∙ sym after-picture
 
-        pub headers-decide : (u : ℕ) → t ≡ 0 → u ≡ statusOf headers → u ≡ statusOf (checkContent (contentOf r source))
-        headers-decide u y e =
-            e ∙ sym (goes-on entries (entries-check (recordAnimation r) false (map (extensionOf source) (usedEntries r))) headers (sym are ∙ y)) ∙ sym after-picture
+        module _ (y : t ≡ 0) where
+          after-entries : statusOf (checkContent (contentOf r source)) ≡ statusOf (headers >>= λ _. bytes)
+          after-entries =
+              after-picture
+              ∙ goes-on entries (entries-check (recordAnimation r) false (map (extensionOf source) (usedEntries r))) (headers >>= λ _. bytes) (sym are ∙ y)
+
+          module _ (u : ℕ) (they : u ≡ statusOf headers) where
+            pub headers-stop : u ≢ 0 → u ≡ statusOf (checkContent (contentOf r source))
+            headers-stop x = they ∙ stops headers (λ _. bytes) (λ e. x (they ∙ e)) ∙ sym after-entries
+
+            pub data-decides : (v : ℕ) → u ≡ 0 → v ≡ statusOf bytes → v ≡ statusOf (checkContent (contentOf r source))
+            data-decides v x e = e ∙ sym (goes-on headers (headers-refuse r source) bytes (sym they ∙ x)) ∙ sym after-entries

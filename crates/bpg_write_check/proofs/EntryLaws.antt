@@ -3,7 +3,7 @@ use mathlib.Core.Path.{_≡_, refl, sym, ap, _∙_, subst}
 use mathlib.Core.Bool.{Bool, true, false, not, _&&_, _||_, and-false}
 use mathlib.Core.Logic.{_≢_}
 use mathlib.Core.List.{List, [], _∷_, map}
-use Prim.Native.Nat.{ℕ, zero, suc, _+_, _≤_, _<_}
+use Prim.Native.Nat.{ℕ, zero, suc, _+_, _-_, _≤_, _<_}
 use native.Mathlib.Omega.{arith}
 use lib.ListN.{length, take, drop, getD, length-take, drop-of-length-le}
 use lib.Seq.{getD-take, length-take-le}
@@ -15,11 +15,12 @@ use Rattle.bpg_codec.proofs.Lists.{drop-next}
 use Rattle.bpg_codec.proofs.Refusals.{refuses-ok, refuses-select}
 use Rattle.bpg_format.specs.Limits.{maxEntries}
 use Rattle.bpg_format.specs.declared.record.Entry.{Entry}
+use Rattle.bpg_format.specs.declared.record.Range.{Range}
 use Rattle.bpg_format.specs.declared.record.Record.{Record}
 use Rattle.bpg_format.specs.Content.{Extension, AnimationControl}
 use Rattle.bpg_format.specs.Rules.{isAnimation, hasAnimation}
 use Rattle.bpg_format.specs.Read.{readAnimation}
-use Rattle.bpg_format.specs.Records.{extensionOf, usedEntries}
+use Rattle.bpg_format.specs.Records.{bytesIn, extensionOf, usedEntries}
 use Rattle.bpg_format.specs.Write.{inSource, entriesInSource, rangesInSource, isZero, zeroEntries, unusedZero, sameAnimation, atZero, checkAnimation, checkEntries, WritingStatus}
 use Rattle.bpg_format.proofs.RuleLaws.{bool-apart}
 use Rattle.bpg_format.proofs.WritingRefusals.{AtZero, R, rule, loop-check}
@@ -68,9 +69,19 @@ pub used-inside : (source : List ℕ) (es : List Entry) (n k : ℕ) (d : Entry) 
 used-inside source es n k d m e h =
     subst (λ (x : Entry). inSource source (x .payload) ≡ true) (getD-take n es k d h) (at-inside source (take n es) k d e (omega (arith, length-take-le n es m)))
 
+-- the bytes from a range's start to its end are the range's
+pub range-bytes : (source : List ℕ) (r : Range) → take (r .start + r .length - r .start) (drop (r .start) source) ≡ bytesIn source r
+range-bytes source r =
+    let e : r .start + r .length - r .start ≡ r .length = omega arith in
+    ap (λ (n : ℕ). take n (drop (r .start) source)) e
+
 pub payloads-held : (source : List ℕ) (r : Record) → rangesInSource source r ≡ true → entriesInSource source (usedEntries r) ≡ true
 unfolding rangesInSource
 payloads-held source r e = both (entriesInSource source (usedEntries r)) (inSource source (r .«data»)) e .0
+
+pub data-held : (source : List ℕ) (r : Record) → rangesInSource source r ≡ true → inSource source (r .«data») ≡ true
+unfolding rangesInSource
+data-held source r e = both (entriesInSource source (usedEntries r)) (inSource source (r .«data»)) e .1
 
 -- ---- unused entries
 

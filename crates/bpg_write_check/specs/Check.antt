@@ -47,7 +47,7 @@ checkPicture c =
 unfoldable pub checkAlpha : (depth : ℕ) → Record → Outcome (Unit {0})
 checkAlpha depth r = select (r .«alpha1_flag» || r .«alpha2_flag») (checkHeader depth (getD (r .headers) 0 zeroHeader)) (ok tt)
 
--- `checkContent` after the entries
+-- `checkContent` from the entries to the data
 unfoldable pub checkHeaders : Content → Outcome (Unit {0})
 checkHeaders c =
     guard (not (c .flags .animation) || hasAnimation (c .extensions)) 14 0 >>= λ _.

@@ -1,16 +1,20 @@
 // The rules in file order.
 use crate::entries;
 use crate::header;
+use bpg_format::Range;
 use bpg_format::Record;
 use bpg_format::color_space_allowed;
+use bpg_format::data_allowed;
 use bpg_format::has_alpha;
 ghost use mathlib.Core.Path.{_≡_};
 ghost use mathlib.Core.Bool.{true};
 ghost use mathlib.Core.List.{List};
 ghost use Prim.Native.Nat.{ℕ, _≤_};
 ghost use Rattle.bpg_format.specs.Limits.{maxEntries};
-ghost use Rattle.bpg_format.specs.Records.{usedEntries, contentOf};
-ghost use Rattle.bpg_format.specs.Write.{entriesInSource, checkContent};
+ghost use Rattle.bpg_codec.specs.Outcome.{guard};
+ghost use Rattle.bpg_format.specs.Tests.{dataAllowed};
+ghost use Rattle.bpg_format.specs.Records.{bytesIn, contentOf};
+ghost use Rattle.bpg_format.specs.Write.{inSource, rangesInSource, checkContent};
 ghost use Rattle.bpg_write_check.specs.Check.{statusOf, checkPicture, checkAlpha, checkHeaders};
 
 // What stands before the extension block.
@@ -45,7 +49,7 @@ fn alpha_status(record: Record, depth: u8) -> u8
     header::status(alpha, depth)
 }
 
-// What follows the extension block.
+// From the extension block to the data.
 fn headers_status(record: Record) -> u8
     requires { ⌜ «record» .«entry_count» ≤ maxEntries ⌝ }
     requires { ⌜ «record» .«bit_depth_minus_8» ≤ 6 ⌝ }
@@ -65,9 +69,21 @@ fn headers_status(record: Record) -> u8
     header::status(color, depth)
 }
 
+fn data_status(bytes: Range, source: &[u8]) -> u8
+    requires { ⌜ inSource (now source) bytes ≡ true ⌝ }
+    ensures { λ r. ⌜ r ≡ statusOf (guard (dataAllowed (bytesIn (now (source .entry)) bytes)) 26 0) ⌝ }
+{
+    let start = bytes.start as usize;
+    let end = start + bytes.length as usize;
+    if !data_allowed(&source[start..end]) {
+        return 26;
+    }
+    0
+}
+
 pub(crate) fn status(record: Record, source: &[u8]) -> u8
     requires { ⌜ «record» .«entry_count» ≤ maxEntries ⌝ }
-    requires { ⌜ entriesInSource (now source) (usedEntries «record») ≡ true ⌝ }
+    requires { ⌜ rangesInSource (now source) «record» ≡ true ⌝ }
     ensures { λ r. ⌜ r ≡ statusOf (checkContent (contentOf «record» (now (source .entry)))) ⌝ }
 {
     let before = picture_status(record);
@@ -78,5 +94,10 @@ pub(crate) fn status(record: Record, source: &[u8]) -> u8
     if number != 0 {
         return number;
     }
-    headers_status(record)
+    let after = headers_status(record);
+    if after != 0 {
+        return after;
+    }
+    let data = record.data;
+    data_status(data, source)
 }

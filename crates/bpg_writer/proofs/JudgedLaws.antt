@@ -64,12 +64,13 @@ module _ (r : Record) (source : List ℕ) where
       unbind (checkEntries (c .control) false (c .extensions)) _ e5 λ _ _ e6.
       unguard (not (r .«animation_flag») || hasAnimation (c .extensions)) 14 0 _ e6 λ _ e7.
       unbind (select (r .«alpha1_flag» || r .«alpha2_flag») (checkHeader (r .«bit_depth_minus_8» + 8) (getD (r .headers) 0 zeroHeader)) (ok tt)) _ e7 λ _ e8 e9.
+      unbind (checkHeader (r .«bit_depth_minus_8» + 8) (getD (r .headers) 1 zeroHeader)) _ e9 λ _ e10 _.
       record {
         format = leb→le _ 5 a;
         depth = leb→le _ 6 b;
         space = leb→le _ 4 (and-left (leb (r .«color_space») 4) _ s);
         alpha = λ there. header-keeps _ _ (sym (select-true _ _ there) ∙ e8);
-        color = header-keeps _ _ e9;
+        color = header-keeps _ _ e10;
       }
 
   pub judged : checkRecord r source ≡ ok tt → Judged r source

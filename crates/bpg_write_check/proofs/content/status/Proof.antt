@@ -1,5 +1,6 @@
 -- `content::status` meets its contract.
-use Rattle.bpg_write_check.proofs.ContentLaws.{depth-fits, picture-stops, entries-stop, headers-decide}
+use Rattle.bpg_write_check.proofs.ContentLaws.{depth-fits, picture-stops, entries-stop, headers-stop, data-decides}
+use Rattle.bpg_write_check.proofs.EntryLaws.{payloads-held, data-held}
 use mathlib.Core.Path.{sym, _∙_}
 use borrow.Author.Needs.{needs}
 use Rattle.bpg_write_check.proofs.content.status.Statement.{statement}
@@ -10,6 +11,9 @@ returns c =
     let p = c .before in
     let source = p .before .before .args .source .now in
     picture-stops _ source _ (p .picture-status .ensures source) (c .if1 .taken)
+
+entries-status-requires : tie.Need-status-requires
+entries-status-requires c κs = let s = c .before .before .before in (s .pre .0, payloads-held (s .args .source .now) (s .args .«record») (s .pre .1))
 
 returns-2 : tie.Need-returns-2
 returns-2 c =
@@ -27,14 +31,30 @@ headers-status-requires c κs =
 
 returns-3 : tie.Need-returns-3
 returns-3 c =
-    let t = c .before in
+    let t = c .before .before in
     let e = t .before .before in
     let p = e .before in
     let source = p .before .before .args .source .now in
-    headers-decide _ source _ (p .picture-status .ensures source) (e .if1 .left) _ (t .before .status .ensures) _ (t .if2 .left) (c .headers-status .ensures source)
+    headers-stop _ source _ (p .picture-status .ensures source) (e .if1 .left) _ (t .before .status .ensures) (t .if2 .left) _
+    (c .before .headers-status .ensures source) (c .if3 .taken)
+
+data-status-requires : tie.Need-data-status-requires
+data-status-requires c κs =
+    let s = c .before .before .before .before .before .before .before .before in
+    data-held (s .args .source .now) (s .args .«record») (s .pre .1)
+
+returns-4 : tie.Need-returns-4
+returns-4 c =
+    let h = c .before .before in
+    let t = h .before .before in
+    let e = t .before .before in
+    let p = e .before in
+    let source = p .before .before .args .source .now in
+    data-decides _ source _ (p .picture-status .ensures source) (e .if1 .left) _ (t .before .status .ensures) (t .if2 .left) _
+    (h .before .headers-status .ensures source) _ (h .if3 .left) (c .data-status .ensures)
 
 pub status-spec : {M : Type 1} → statement M
 status-spec =
     tie.close
     (tie.spec
-    (λ c κs. search needs) returns (λ c κs. search needs) returns-2 headers-status-requires returns-3)
+    (λ c κs. search needs) returns entries-status-requires returns-2 headers-status-requires returns-3 data-status-requires returns-4)

@@ -1,11 +1,9 @@
 -- `entries::control_status` meets its contract.
 use mathlib.Core.Path.{_≡_, sym, ap, _∙_}
 use borrow.Author.Tests.{not-true, not-false}
-use Rattle.bpg_write_check.proofs.EntryLaws.{payload-refused, loop-differs, loop-same}
+use Rattle.bpg_write_check.proofs.EntryLaws.{range-bytes, payload-refused, loop-differs, loop-same}
 use mathlib.Core.List.{List}
-use Prim.Native.Nat.{ℕ, _+_, _-_}
-use native.Mathlib.Omega.{arith}
-use lib.ListN.{take, drop}
+use Prim.Native.Nat.{ℕ}
 use Rattle.bpg_format.specs.declared.record.Range.{Range}
 use Rattle.bpg_format.specs.Read.{readAnimation}
 use Rattle.bpg_format.specs.Records.{bytesIn}
@@ -23,9 +21,7 @@ module _ (c : tie.After-read) where
   payload = c .before .before .before .before .before .args .payload
 
   answer : c .read .result ≡ animationAnswer (readAnimation 0 (bytesIn source payload))
-  answer =
-      let e : payload .start + payload .length - payload .start ≡ payload .length = omega arith in
-      c .read .ensures ∙ ap (λ (n : ℕ). animationAnswer (readAnimation 0 (take n (drop (payload .start) source)))) e
+  answer = c .read .ensures ∙ ap (λ (l : List ℕ). animationAnswer (readAnimation 0 l)) (range-bytes source payload)
 
 returns : tie.Need-returns
 returns c = let r = c .before .before in payload-refused _ _ (r .read .result) (answer r) (c .if1 .taken)

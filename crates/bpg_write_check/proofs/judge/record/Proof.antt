@@ -6,7 +6,6 @@ use Prim.Native.Nat.{ℕ}
 use borrow.Author.Tests.{not-true, not-false}
 use Rattle.bpg_format.specs.declared.record.Record.{Record}
 use Rattle.bpg_format.specs.Write.{rangesInSource, unusedZero}
-use Rattle.bpg_write_check.proofs.EntryLaws.{payloads-held}
 use Rattle.bpg_write_check.proofs.Judgement.{too-many, range-outside, unused-set, inconsistent, content-decides}
 use borrow.Author.Needs.{needs}
 use Rattle.bpg_write_check.proofs.judge.record.Statement.{statement}
@@ -51,7 +50,7 @@ status-requires : tie.Need-status-requires
 status-requires c κs =
     let i = c .before .before .before .before in
     let f = i .before .before in
-    (f .if1 .left, payloads-held (source f) (rec f) (inside i))
+    (f .if1 .left, inside i)
 
 returns-5 : tie.Need-returns-5
 returns-5 c =
