@@ -3,7 +3,7 @@ use mathlib.Core.Path.{_≡_}
 use mathlib.Core.Bool.{Bool, true, false, _||_}
 use mathlib.Core.List.{List, [], _∷_, _++_}
 use mathlib.Core.Logic.{_≢_}
-use Prim.Native.Nat.{ℕ, _+_, _-_, _^_, _≤_, _<_}
+use Prim.Native.Nat.{ℕ, min, _+_, _-_, _^_, _≤_, _<_}
 use lib.Dec.{eqb}
 use lib.ListN.{length, take, getD, replicate}
 use Rattle.bpg_codec.specs.Lawful.{All, Byte}
@@ -16,7 +16,7 @@ use Rattle.bpg_format.specs.Zero.{zeroHeader}
 
 -- ---- HEVC rules, each header
 
--- document 01's MinCb, Ctb, MinTb, MaxTb and MinPcm
+-- document 01's MinCb, Ctb, MinTb, MaxTb and MinPcm, and the largest PCM size
 module _ (h : Header) where
   abbrev pub minCbLog2SizeY : ℕ
   minCbLog2SizeY = h .«log2_min_luma_coding_block_size_minus3» + 3
@@ -33,18 +33,22 @@ module _ (h : Header) where
   abbrev pub log2MinIpcmCbSizeY : ℕ
   log2MinIpcmCbSizeY = h .«log2_min_pcm_luma_coding_block_size_minus3» + 3
 
--- refusal 16; `depth` is the file's bit depth
+  abbrev pub log2MaxIpcmCbSizeY : ℕ
+  log2MaxIpcmCbSizeY = log2MinIpcmCbSizeY + h .«log2_diff_max_min_pcm_luma_coding_block_size»
+
+-- refusal 16, with the limits of request 3/13 (H.265, 7.4.3.2); `depth` is the file's bit depth. MinPcm is not above the largest PCM size, and
+-- so within the same limit
 pub record PcmRules (depth : ℕ) (h : Header) : Type 0 where
   pub luma-depth : h .«pcm_sample_bit_depth_luma_minus1» + 1 ≤ depth
   pub chroma-depth : h .«pcm_sample_bit_depth_chroma_minus1» + 1 ≤ depth
-  pub min-pcm : minCbLog2SizeY h ≤ log2MinIpcmCbSizeY h
-  pub max-pcm : log2MinIpcmCbSizeY h + h .«log2_diff_max_min_pcm_luma_coding_block_size» ≤ ctbLog2SizeY h
+  pub min-pcm : min (minCbLog2SizeY h) 5 ≤ log2MinIpcmCbSizeY h
+  pub max-pcm : log2MaxIpcmCbSizeY h ≤ min (ctbLog2SizeY h) 5
 
 pub record HevcRules (depth : ℕ) (h : Header) : Type 0 where
   pub ctb-least : 4 ≤ ctbLog2SizeY h
   pub ctb-most : ctbLog2SizeY h ≤ 6
   pub min-tb : minTbLog2SizeY h < minCbLog2SizeY h
-  pub max-tb : maxTbLog2SizeY h ≤ ctbLog2SizeY h
+  pub max-tb : maxTbLog2SizeY h ≤ min (ctbLog2SizeY h) 5
   pub hierarchy-depth : h .«max_transform_hierarchy_depth_intra» + minTbLog2SizeY h ≤ ctbLog2SizeY h
   pub pcm : h .«pcm_enabled_flag» ≡ true → PcmRules depth h
 

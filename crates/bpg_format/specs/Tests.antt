@@ -1,13 +1,13 @@
 -- Document 01's rules on values as tests: reading and writing judge by them. `Rules` has the same rules as named facts.
 use mathlib.Core.Bool.{Bool, false, not, _&&_, _||_}
 use mathlib.Core.List.{List, [], _∷_}
-use Prim.Native.Nat.{ℕ, _+_}
+use Prim.Native.Nat.{ℕ, min, _+_}
 use lib.Dec.{leb, ltb, eqb}
 use lib.ListN.{take, getD}
 use Rattle.bpg_codec.specs.Lists.{same}
 use Rattle.bpg_format.specs.declared.record.Header.{Header}
 use Rattle.bpg_format.specs.Content.{Flags}
-use Rattle.bpg_format.specs.Rules.{minCbLog2SizeY, ctbLog2SizeY, minTbLog2SizeY, maxTbLog2SizeY, log2MinIpcmCbSizeY}
+use Rattle.bpg_format.specs.Rules.{minCbLog2SizeY, ctbLog2SizeY, minTbLog2SizeY, maxTbLog2SizeY, log2MinIpcmCbSizeY, log2MaxIpcmCbSizeY}
 
 -- refusal 6: the colour space is 0 to 4; 0 if the pixel format is 0
 abbrev pub colorSpaceAllowed : Flags → Bool
@@ -29,15 +29,14 @@ unfoldable pub pcmAllowed : (depth : ℕ) → Header → Bool
 pcmAllowed depth h =
     leb (h .«pcm_sample_bit_depth_luma_minus1» + 1) depth
     && (leb (h .«pcm_sample_bit_depth_chroma_minus1» + 1) depth
-    && (leb (minCbLog2SizeY h) (log2MinIpcmCbSizeY h)
-    && leb (log2MinIpcmCbSizeY h + h .«log2_diff_max_min_pcm_luma_coding_block_size») (ctbLog2SizeY h)))
+    && (leb (min (minCbLog2SizeY h) 5) (log2MinIpcmCbSizeY h) && leb (log2MaxIpcmCbSizeY h) (min (ctbLog2SizeY h) 5)))
 
 unfoldable pub hevcAllowed : (depth : ℕ) → Header → Bool
 hevcAllowed depth h =
     leb 4 (ctbLog2SizeY h)
     && (leb (ctbLog2SizeY h) 6
     && (ltb (minTbLog2SizeY h) (minCbLog2SizeY h)
-    && (leb (maxTbLog2SizeY h) (ctbLog2SizeY h)
+    && (leb (maxTbLog2SizeY h) (min (ctbLog2SizeY h) 5)
     && (leb (h .«max_transform_hierarchy_depth_intra» + minTbLog2SizeY h) (ctbLog2SizeY h)
     && (not (h .«pcm_enabled_flag») || pcmAllowed depth h)))))
 

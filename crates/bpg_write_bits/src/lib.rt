@@ -12,7 +12,7 @@ ghost use Rattle.bpg_codec.specs.Buffer.{written, writtenEnd};
 ghost use Rattle.bpg_bits.specs.BitNumbers.{expGolomb};
 ghost use Rattle.bpg_write_bits.specs.BitBuffer.{empty, overfull, appended, bigEndian, bufferBytes};
 
-// The bits as a number, and how many they are: a HEVC header that keeps the rules has at most 58.
+// The bits as a number, and how many they are: a HEVC header that keeps the rules has at most 56.
 pub struct BitBuffer {
     pub bits: u64,
     pub len: BitPos,

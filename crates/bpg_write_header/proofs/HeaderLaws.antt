@@ -1,4 +1,4 @@
--- The bits of a header: at most 58 where it keeps the rules; its groups, added to an empty buffer, are all that the buffer holds.
+-- The bits of a header: at most 56 where it keeps the rules; its groups, added to an empty buffer, are all that the buffer holds.
 --
 use mathlib.Core.Path.{_≡_, refl, sym, ap, _∙_}
 use mathlib.Core.Bool.{Bool, true, false}
@@ -40,7 +40,7 @@ select-most true l n h = h refl
 select-most false l n h = omega arith
 
 module _ (depth : ℕ) (h : Header) (rules : HevcRules depth h) where
-  pcm-most : h .«pcm_enabled_flag» ≡ true → length (pcmBits h) ≤ 16
+  pcm-most : h .«pcm_enabled_flag» ≡ true → length (pcmBits h) ≤ 15
   pcm-most there =
       simp (length-append, length-bits)
       (omega (
@@ -51,7 +51,7 @@ module _ (depth : ℕ) (h : Header) (rules : HevcRules depth h) where
         code-most (h .«log2_diff_max_min_pcm_luma_coding_block_size»),
       ))
 
-  pub header-short : length (h .«range_flags») ≡ 9 → length (headerBits h) ≤ 58
+  pub header-short : length (h .«range_flags») ≡ 9 → length (headerBits h) ≤ 56
   unfolding headerBits
   header-short nine =
       simp length-append
@@ -65,7 +65,7 @@ module _ (depth : ℕ) (h : Header) (rules : HevcRules depth h) where
         code-most (h .«log2_min_transform_block_size_minus2»),
         code-most (h .«log2_diff_max_min_transform_block_size»),
         code-most (h .«max_transform_hierarchy_depth_intra»),
-        select-most (h .«pcm_enabled_flag») (pcmBits h) 16 pcm-most,
+        select-most (h .«pcm_enabled_flag») (pcmBits h) 15 pcm-most,
         select-most (h .«sps_extension_present_flag») (spsExtensionBits h) 8 (λ _. omega (arith, length-bits 7 (h .«sps_extension_7bits»))),
         select-most (h .«sps_range_extension_flag») (h .«range_flags») 9 (λ _. omega arith),
       ))
