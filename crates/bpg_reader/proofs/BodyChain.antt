@@ -16,7 +16,7 @@ use Rattle.bpg_format.specs.declared.record.Header.{Header}
 use Rattle.bpg_format.specs.Zero.{zeroHeader}
 use Rattle.bpg_format.specs.Content.{Flags, Extension, Content, hasAlpha, bitDepth}
 use Rattle.bpg_format.specs.Rules.{hasAnimation}
-use Rattle.bpg_format.specs.Tests.{countsToEnd, noForbiddenBit, hevcAllowed}
+use Rattle.bpg_format.specs.Tests.{countsToEnd, noForbiddenBit, hevcAllowed, dataAllowed}
 use Rattle.bpg_format.specs.FileCodec.{headerFields, header, alphaHeader}
 use Rattle.bpg_format.specs.Read.{Head, readBlock, readHeader, readAlphaHeader, readBody}
 use Rattle.bpg_format.proofs.Chain.{header-chain, alpha-chain}
@@ -54,9 +54,12 @@ module _ (file : List ℕ) (p : ℕ) (x : Decoded ℕ Header) where
 abbrev pub headersOf : List ℕ → Head → Outcome (Header × Header × ℕ)
 headersOf file h = headersIn file (hasAlpha (h .flags)) (bitDepth (h .flags)) (headersStart h)
 
--- the headers; what is left is the data
+-- 26; what is left after the headers is the data
+abbrev pub fromData : List ℕ → Head → List Extension → (alpha color : Header) (start : ℕ) → Outcome Content
+fromData file h es alpha color start = guard (dataAllowed (drop start file)) 26 start >>= λ _. ok (bodyContent h es alpha color (drop start file))
+
 abbrev pub fromHeaders : List ℕ → Head → List Extension → Outcome Content
-fromHeaders file h es = headersOf file h >>= λ x. ok (bodyContent h es (x .0) (x .1) (drop (x .2) file))
+fromHeaders file h es = headersOf file h >>= λ x. fromData file h es (x .0) (x .1) (x .2)
 
 -- after the block: 14, then 10
 abbrev pub afterBlock : List ℕ → Head → List Extension → Outcome Content
@@ -85,15 +88,18 @@ module _ (file : List ℕ) (short : length file ≤ maxFile) (h : Head) where
       rw (← ok-injective e3) (header-inside file (a .next) c depth begins (sym (in-file file depth (a .next) short) ∙ e2))
 
   headers-then : (es : List Extension)
-      → (readAlphaHeader (h .flags) start (drop start file) >>= λ a. readHeader depth (a .next) (a .rest) >>= λ c. ok (bodyContent h es (a .value) (c .value) (c .rest)))
+      → (readAlphaHeader (h .flags) start (drop start file) >>= λ a.
+      readHeader depth (a .next) (a .rest) >>= λ c.
+      guard (dataAllowed (c .rest)) 26 (c .next) >>= λ _.
+      ok (bodyContent h es (a .value) (c .value) (c .rest)))
       ≡ fromHeaders file h es
   unfolding headersIn
   headers-then es =
-      bind-cong (readAlphaHeader (h .flags) start (drop start file)) _ (λ a. headerIn file depth (a .next) >>= λ c. ok (bodyContent h es (a .value) (c .value) (drop (c .next) file)))
+      bind-cong (readAlphaHeader (h .flags) start (drop start file)) _ (λ a. headerIn file depth (a .next) >>= λ c. fromData file h es (a .value) (c .value) (c .next))
       (λ a e.
       rw (alpha-left file start a (h .flags) e, in-file file depth (a .next) short)
       (bind-cong (readHeader depth (a .next) (drop (a .next) file)) _ _
-      (λ c g. ap (λ (l : List ℕ). ok (bodyContent h es (a .value) (c .value) l)) (header-left file (a .next) c depth g))))
+      (λ c g. ap (λ (l : List ℕ). guard (dataAllowed l) 26 (c .next) >>= λ _. ok (bodyContent h es (a .value) (c .value) l)) (header-left file (a .next) c depth g))))
       ∙ rw (sym alpha-is) (simp bind-assoc)
 
   pub body-chain : readBody h (drop (h .end) file) ≡ (readBlock h (drop (h .end) file) >>= afterBlock file h)

@@ -6,7 +6,8 @@ use mathlib.Core.List.{List}
 use Prim.Native.Nat.{ℕ, _-_, _≤_}
 use native.Mathlib.Omega.{arith}
 use lib.Dec.{leb, leb→le}
-use lib.ListN.{length, drop, length-drop}
+use lib.ListN.{length, take, drop, length-drop}
+use lib.Seq.{take-length}
 use borrow.Author.Tests.{le-leb}
 use Rattle.bpg_codec.specs.Outcome.{ok, error, _>>=_}
 use Rattle.bpg_codec.proofs.Answers.{refused-error, accepted-value}
@@ -15,7 +16,7 @@ use Rattle.bpg_format.specs.Limits.{maxFile}
 use Rattle.bpg_format.specs.Zero.{refusedReading}
 use Rattle.bpg_format.specs.Content.{Extension}
 use Rattle.bpg_format.specs.Rules.{hasAnimation}
-use Rattle.bpg_format.specs.Tests.{countsToEnd}
+use Rattle.bpg_format.specs.Tests.{countsToEnd, dataAllowed}
 use Rattle.bpg_format.specs.Read.{Head, readBlock, readBody, readContent, ReadingStatus}
 use Rattle.bpg_format.specs.Records.{answerOf}
 use Rattle.bpg_format.proofs.ReadingRefusals.{content-refuses}
@@ -24,7 +25,7 @@ use Rattle.bpg_read_entries.specs.Blocks.{blockAnswer}
 use Rattle.bpg_read_headers.specs.declared.headers.HeadersReading.{HeadersReading}
 use Rattle.bpg_read_headers.specs.BothHeaders.{headersAnswer}
 use Rattle.bpg_reader.specs.Bodies.{HeadRead, headersStart, bodyContent}
-use Rattle.bpg_reader.proofs.BodyChain.{headersOf, fromHeaders, afterBlock, headers-inside, body-chain}
+use Rattle.bpg_reader.proofs.BodyChain.{headersOf, fromData, fromHeaders, afterBlock, headers-inside, body-chain}
 
 -- ---- the block
 
@@ -90,7 +91,7 @@ module _ {file : List ℕ} {h : Head} {b : Block} (k : BlockRead file h b) where
 pub record HeadersRead (file : List ℕ) (h : Head) (b : Block) (x : HeadersReading) : Type 0 where
   pub block : BlockRead file h b
   pub inside : x .next .0 ≤ length file
-  pub left : readBody h (drop (h .end) file) ≡ ok (bodyContent h (block .entries) (x .alpha) (x .color) (drop (x .next .0) file))
+  pub left : readBody h (drop (h .end) file) ≡ fromData file h (block .entries) (x .alpha) (x .color) (x .next .0)
 
 module _ {file : List ℕ} {h : Head} {b : Block} (k : Judged file h b) (x : HeadersReading) (e : x ≡ headersAnswer (headersOf file h)) where
   pub headers-refused : x .status ≢ 0 → refusedReading (x .status) (x .offset .0) ≡ answerOf (readBody h (drop (h .end) file))
@@ -102,3 +103,21 @@ module _ {file : List ℕ} {h : Head} {b : Block} (k : Judged file h b) (x : Hea
       (λ s o w. not-zero (k .block .head) s o (k .left ∙ rw w)) λ y w.
       subst (HeadersRead file h b) (sym (e ∙ ap headersAnswer w))
       (record { block = k .block; inside = headers-inside file (k .block .head .short) h (k .block .inside) y w; left = k .left ∙ rw w })
+
+-- ---- 26
+
+pub record BodyRead (file : List ℕ) (h : Head) (b : Block) (x : HeadersReading) : Type 0 where
+  pub block : BlockRead file h b
+  pub inside : x .next .0 ≤ length file
+  pub left : readBody h (drop (h .end) file) ≡ ok (bodyContent h (block .entries) (x .alpha) (x .color) (drop (x .next .0) file))
+
+-- a slice to the end is what is left
+pub to-end : (file : List ℕ) (p : ℕ) → take (length file - p) (drop p file) ≡ drop p file
+to-end file p = rw (← length-drop p file) (take-length (drop p file))
+
+module _ {file : List ℕ} {h : Head} {b : Block} {x : HeadersReading} (k : HeadersRead file h b x) where
+  pub data-refused : dataAllowed (drop (x .next .0) file) ≡ false → refusedReading 26 (x .next .0) ≡ answerOf (readBody h (drop (h .end) file))
+  data-refused a = rw (k .left, a)
+
+  pub data-read : dataAllowed (drop (x .next .0) file) ≡ true → BodyRead file h b x
+  data-read a = record { block = k .block; inside = k .inside; left = k .left ∙ rw a }

@@ -18,9 +18,9 @@ use Rattle.bpg_read_headers.specs.declared.headers.HeadersReading.{HeadersReadi
 use Rattle.bpg_reader.specs.Bodies.{headFields, bodyContent}
 use Rattle.bpg_reader.specs.Assembled.{assembledReading}
 use Rattle.bpg_reader.proofs.HeadOf.{head-of}
-use Rattle.bpg_reader.proofs.BodyLaws.{content-is, HeadersRead}
+use Rattle.bpg_reader.proofs.BodyLaws.{content-is, BodyRead}
 
-module _ {file : List ℕ} {h : Head} {b : Block} {x : HeadersReading} (k : HeadersRead file h b x) where
+module _ {file : List ℕ} {h : Head} {b : Block} {x : HeadersReading} (k : BodyRead file h b x) where
   abbrev content : Content
   content = bodyContent h (k .block .entries) (x .alpha) (x .color) (drop (x .next .0) file)
 
@@ -36,7 +36,7 @@ module _ {file : List ℕ} {h : Head} {b : Block} {x : HeadersReading} (k : Head
   data-starts : dataStart content ≡ x .next .0
   data-starts = omega (arith, ap length (is .1), data-end content (is .0), length-drop (x .next .0) file, k .inside)
 
-pub body-read : {file : List ℕ} {b : Block} {x : HeadersReading} (head : HeadReading) (k : HeadersRead file (headFields head) b x)
+pub body-read : {file : List ℕ} {b : Block} {x : HeadersReading} (head : HeadReading) (k : BodyRead file (headFields head) b x)
     → assembledReading (length file) head b x ≡ answerOf (readBody (headFields head) (drop (head .end .0) file))
 unfolding recordOf
 body-read {file} {b} {x} head k = rw (k .block .is, k .left, block-starts k, data-starts k, length-drop (x .next .0) file)

@@ -2,6 +2,7 @@
 use crate::answer;
 use bpg_bytes::BytePos;
 use bpg_format::Reading;
+use bpg_format::data_allowed;
 use bpg_format::has_alpha;
 use bpg_format::reading_refused;
 use bpg_read_entries::block;
@@ -77,6 +78,10 @@ pub(crate) fn read(file: &[u8], head: Head) -> Reading
     );
     if both.status != 0 {
         return reading_refused(both.status, both.offset.0);
+    }
+    let start = both.next.0;
+    if !data_allowed(&file[start..]) {
+        return reading_refused(26, start);
     }
     answer::assemble(file.len(), head, block, both)
 }
