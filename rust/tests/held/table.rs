@@ -27,7 +27,7 @@ pub struct Cases {
 #[derive(Clone, Default)]
 pub struct Table {
     pub cases: Cases,
-    counts: [[u64; 7]; 26],
+    counts: [[u64; 7]; 27],
 }
 
 /// The calls, and the refusals that can occur in each.
@@ -43,11 +43,13 @@ const CALLS: [(&str, &[&[usize]]); 7] = [
 ];
 
 /// The refusals of reading: 18 to 20 are those of the writer.
-const READ: &[usize] = &[1, 2, 3, 4, 5, 6, 7, 8, 9, 10, 11, 12, 13, 14, 15, 16, 17];
+const READ: &[usize] = &[
+    1, 2, 3, 4, 5, 6, 7, 8, 9, 10, 11, 12, 13, 14, 15, 16, 17, 26,
+];
 /// In writing, not 3 nor 10: a record has no magic, and its lengths follow from the rest. 2, 7 and 8 are
 /// those of the loop numbers in a tag 5 payload.
 const WRITE: &[usize] = &[
-    1, 2, 4, 5, 6, 7, 8, 9, 11, 12, 13, 14, 15, 16, 17, 18, 19, 20,
+    1, 2, 4, 5, 6, 7, 8, 9, 11, 12, 13, 14, 15, 16, 17, 18, 19, 20, 26,
 ];
 /// A buffer or list that is too short.
 const SHORT: &[usize] = &[20];
