@@ -116,7 +116,8 @@ enum bpg_status {
     BPG_BAD_NAL_UNIT = 22,      /* frames: a unit too short, its header, its emulation prevention or its SEI messages */
     BPG_BAD_NAL_LAYER = 23,     /* frames: a layer above 1, layer 1 without alpha, or a VPS or SPS */
     BPG_BAD_DURATION = 24,      /* frames: 0, two with no frame start between, or one with no frame after it */
-    BPG_BAD_FRAME_COUNT = 25    /* frames: a still file without exactly one, an animated one with fewer than two */
+    BPG_BAD_FRAME_COUNT = 25,   /* frames: a still file without exactly one, an animated one with fewer than two */
+    BPG_BAD_DATA_START = 26     /* data empty, or beginning 00 00 01 or 00 00 00 01 */
 };
 
 /* Reads a file. Success: status 0, the first 117 numbers are the reading's, the rest of the list is unchanged. A list shorter than 117 is

@@ -5,20 +5,31 @@
 #[allow(dead_code, unused_imports)]
 mod plain;
 mod race;
+#[path = "../tests/cases/random.rs"]
+#[allow(dead_code)]
+mod random;
 mod sample;
 
 use std::hint::black_box;
 
 use race::Race;
+use sample::Marks;
 
 const SIZES: [(&str, usize); 3] = [("1 KiB", 1 << 10), ("64 KiB", 1 << 16), ("16 MiB", 1 << 24)];
+
+const MARKS: [(&str, Marks); 3] = [
+    ("no marks", Marks::None),
+    ("few marks", Marks::Few),
+    ("many marks", Marks::Many),
+];
 
 fn main() {
     println!("Times are medians in ns a call. Ratios are medians over rounds in which each takes its turn;");
     println!(
         "above 1 the library is slower. Every byte of the buffers was touched before; they are not"
     );
-    println!("cleared between calls. `list`: the C call, a record being a list of numbers.");
+    println!("cleared between calls. `list`: the C call, a record being a list of numbers. `frame_count`: of");
+    println!("16 MiB. Marks are two zero bytes and one of at most 3; few: one in 4 KiB; many: one in 13 bytes.");
     println!();
     println!("                              library      plain  ratio");
     for entries in [0, 3, 16] {
@@ -35,6 +46,15 @@ fn main() {
     for (name, size) in SIZES {
         writing(name, size);
         writing_list(name, size);
+    }
+    counting_frames("few zeros", Marks::Few);
+    counting_frames("many zeros", Marks::Many);
+    for (name, size) in &SIZES[1..] {
+        for (marks_name, marks) in MARKS {
+            let name = format!("{name}, {marks_name}");
+            unescaping(&name, &sample::unit(marks, *size));
+            escaping(&name, &sample::bytes(marks, *size));
+        }
     }
 }
 
@@ -131,6 +151,43 @@ fn writing_list(name: &str, size: usize) {
         ],
     );
     show_three(&format!("write list {name}"), &race);
+}
+
+fn counting_frames(name: &str, marks: Marks) {
+    let file = &sample::animation(marks, 1 << 24)[..];
+    let race = Race::run(
+        &mut buffer(file.len()),
+        [
+            &mut |_| ok(bpg::frame_count(black_box(file))),
+            &mut |_| ok(plain::frame_count(black_box(file))),
+            &mut |out| black_box(out).copy_from_slice(black_box(file)),
+        ],
+    );
+    show_three(&format!("frame_count, {name}"), &race);
+}
+
+fn unescaping(name: &str, unit: &[u8]) {
+    let race = Race::run(
+        &mut buffer(unit.len()),
+        [
+            &mut |out| ok(bpg::unescape(black_box(unit), black_box(out))),
+            &mut |out| ok(plain::unescape(black_box(unit), black_box(out))),
+            &mut |out| black_box(out).copy_from_slice(black_box(unit)),
+        ],
+    );
+    show_three(&format!("unescape {name}"), &race);
+}
+
+fn escaping(name: &str, bytes: &[u8]) {
+    let race = Race::run(
+        &mut buffer(2 * bytes.len()),
+        [
+            &mut |out| ok(bpg::escape(black_box(bytes), black_box(out))),
+            &mut |out| ok(plain::escape(black_box(bytes), black_box(out))),
+            &mut |out| black_box(&mut out[..bytes.len()]).copy_from_slice(black_box(bytes)),
+        ],
+    );
+    show_three(&format!("escape {name}"), &race);
 }
 
 /// A buffer whose every byte was written, so that no page is met for the first time.

@@ -57,6 +57,7 @@ reasons! {
     23 BadNalLayer "a NAL unit has a layer above 1, layer 1 without alpha, or is a VPS or SPS",
     24 BadDuration "a frame duration is 0, is the second for its frame, or has no frame after it",
     25 BadFrameCount "a still file has not exactly one frame, or an animated one fewer than two",
+    26 BadDataStart "the HEVC data is empty or begins with a start code",
 }
 
 impl Reason {

@@ -1,7 +1,9 @@
-//! Holds the proved library to an independent implementation, over two million files and records a run.
+//! Holds the proved library to an independent implementation, over nearly three million files, records and
+//! slices a run.
 //!
-//! `BPG_SEED` gives another run, `BPG_FILES` and `BPG_RECORDS` another number of cases. A difference fails
-//! the test and prints the case and both answers.
+//! `BPG_SEED` gives another run; `BPG_FILES`, `BPG_RECORDS`, `BPG_FRAMED` (files whose data is made of units,
+//! for the calls on frames) and `BPG_SLICES` (for emulation prevention) another number of cases. A difference
+//! fails the test and prints the case and both answers.
 
 mod cases;
 mod held;
@@ -11,7 +13,7 @@ use std::env;
 use std::thread;
 
 use cases::{large, records, Random};
-use held::{Buffers, Table};
+use held::{Buffers, Cases, Table};
 
 const THREADS: u64 = 2;
 
@@ -21,14 +23,18 @@ const CAPACITY: usize = 1 << 20;
 #[test]
 fn the_library_agrees_with_plain_rust() {
     let seed = setting("BPG_SEED", 20_150_425);
-    let files = setting("BPG_FILES", 1_500_000);
-    let records = setting("BPG_RECORDS", 700_000);
-    println!("seed {seed}: {files} files, {records} records, and some large");
+    let cases = Cases {
+        files: setting("BPG_FILES", 1_500_000),
+        records: setting("BPG_RECORDS", 700_000),
+        framed: setting("BPG_FRAMED", 300_000),
+        slices: setting("BPG_SLICES", 300_000),
+    };
+    println!("seed {seed}: {cases}, and some large");
     let mut table = large_cases(&mut Random::new(seed));
     thread::scope(|scope| {
         let runs = (1..=THREADS).map(|thread| {
             let random = Random::new(seed.wrapping_add(thread));
-            scope.spawn(move || run(random, files.div_ceil(THREADS), records.div_ceil(THREADS)))
+            scope.spawn(move || run(random, cases.share(THREADS)))
         });
         let runs: Vec<_> = runs.collect();
         for run in runs {
@@ -47,20 +53,26 @@ fn setting(name: &str, default: u64) -> u64 {
     }
 }
 
-fn run(mut random: Random, files: u64, records: u64) -> Table {
-    let mut table = Table::default();
+fn run(mut random: Random, cases: Cases) -> Table {
+    let mut table = Table::new(cases);
     let mut buffers = Buffers::new(&mut random, CAPACITY);
-    for _ in 0..files {
+    for _ in 0..cases.files {
         let file = cases::file(&mut random);
         held::read(&file, &mut random, &mut table);
         held::canonical(&file, &mut buffers, &mut random, &mut table);
     }
-    for _ in 0..records {
+    for _ in 0..cases.records {
         let case = records::case(&mut random);
         held::write(&case, &mut buffers, &mut random, &mut table);
     }
-    table.files = files;
-    table.records = records;
+    for _ in 0..cases.framed {
+        let file = cases::frames::file(&mut random);
+        held::frames(&file, &mut random, &mut table);
+    }
+    for _ in 0..cases.slices {
+        let slice = cases::slices::slice(&mut random);
+        held::escape(&slice, &mut buffers, &mut random, &mut table);
+    }
     table
 }
 
@@ -76,8 +88,10 @@ fn large_cases(random: &mut Random) -> Table {
         ] {
             held::read(&file, random, &mut table);
             held::canonical(&file, &mut buffers, random, &mut table);
-            table.files += 1;
+            table.cases.files += 1;
         }
+        held::frames(&large::long_slice(size), random, &mut table);
+        table.cases.framed += 1;
     }
     let source = random.bytes(1_000_000);
     for i in 0..500 {
@@ -85,7 +99,7 @@ fn large_cases(random: &mut Random) -> Table {
         // Most need no buffer: 1 comes before 20.
         let capacity = if i < 6 { plain::MAX_FILE } else { i };
         held::write_in(&case, capacity, &mut buffers, random, &mut table);
-        table.records += 1;
+        table.cases.records += 1;
     }
     table
 }
@@ -96,6 +110,7 @@ fn above_limit(random: &mut Random, buffers: &mut Buffers, table: &mut Table) {
         let file = &buffer[..plain::MAX_FILE + more];
         held::read(file, random, table);
         held::canonical_in(file, more, buffers, table);
-        table.files += 1;
+        held::frames(file, random, table);
+        table.cases.files += 1;
     }
 }

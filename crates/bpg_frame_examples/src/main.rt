@@ -8,7 +8,7 @@ mod frames;
 mod hex;
 mod text;
 
-use crate::hex::HexLine;
+use bpg_hex::HexLine;
 
 // A size of two bytes.
 fn size(high: u8, low: u8) -> usize {
@@ -37,9 +37,9 @@ fn show_case(bytes: &[u8], count: usize) {
 fn take(bytes: &mut [u8], line: HexLine, c: u8) -> HexLine {
     if c == b'\n' {
         show_case(bytes, line.count);
-        return hex::none();
+        return bpg_hex::none();
     }
-    hex::extend(bytes, line, c)
+    bpg_hex::extend(bytes, line, c)
 }
 
 // Each line of the text; the answer is what follows the last.
@@ -63,7 +63,7 @@ fn show_chunk(bytes: &mut [u8], begun: HexLine) -> HexLine {
 fn main() {
     let mut space = io::buffer();
     let bytes: &mut [u8] = &mut space;
-    let mut line = hex::none();
+    let mut line = bpg_hex::none();
     let mut left: usize = 8;
     while 0 < left {
         line = show_chunk(bytes, line);

@@ -1,8 +1,11 @@
 //! Functions measured in turns, so that what slows the machine down slows all of them.
 
-use std::time::Instant;
+use std::time::{Duration, Instant};
 
+/// There are so many rounds, or fewer once they have taken long.
 const ROUNDS: usize = 301;
+const FEWER: usize = 31;
+const LONG: Duration = Duration::from_secs(5);
 
 /// A function's turn takes at least about this long, in ns.
 const ROUND: f64 = 500_000.0;
@@ -20,7 +23,12 @@ impl<const N: usize> Race<N> {
             let functions = functions.each_mut();
             functions.map(|function| time(&mut || function(buffer), calls))
         };
-        Race((0..ROUNDS).map(|_| round()).collect())
+        let start = Instant::now();
+        let mut rounds = Vec::new();
+        while rounds.len() < FEWER || rounds.len() < ROUNDS && start.elapsed() < LONG {
+            rounds.push(round());
+        }
+        Race(rounds)
     }
 
     /// The median time of a function.

@@ -1,8 +1,9 @@
-//! Files to measure with.
+//! Files and bytes to measure with.
 
 use bpg::{Entry, HevcHeader, Record, Span};
 
 use crate::plain;
+use crate::random::Random;
 
 /// A payload's bytes; it begins with loop numbers, so that it can be that of any tag.
 const PAYLOAD: [u8; 8] = [0, 1, 10, 0x45, 0x78, 0x69, 0x66, 0];
@@ -39,6 +40,65 @@ pub fn file(entries: usize, alpha: bool, size: usize) -> Vec<u8> {
         }
     }
     panic!("no file has {size} bytes");
+}
+
+/// How many marks of start codes and emulation prevention there are: two zero bytes and one of at most 3.
+#[derive(Clone, Copy)]
+pub enum Marks {
+    /// Bytes as entropy coding leaves them, one in 256 zero.
+    None,
+    /// The same, with a mark in each 4 KiB.
+    Few,
+    /// More than half of the bytes are zero.
+    Many,
+}
+
+/// So many bytes before emulation prevention.
+pub fn bytes(marks: Marks, size: usize) -> Vec<u8> {
+    let mut random = Random::new(1);
+    let mut bytes = random.bytes(size);
+    match marks {
+        Marks::None => {
+            let unmarked = |byte: &mut u8| *byte |= u8::from(*byte == 0);
+            bytes.iter_mut().step_by(2).for_each(unmarked);
+        }
+        Marks::Few => {
+            let parts = bytes.chunks_exact_mut(4096);
+            parts.for_each(|part| part[4000..4003].copy_from_slice(&[0, 0, 1]));
+        }
+        Marks::Many => {
+            let cleared = |byte: &mut u8| *byte &= random.pick(&[0, 0xFF]);
+            bytes.iter_mut().for_each(cleared);
+        }
+    }
+    bytes
+}
+
+/// So many bytes that keep the emulation rules.
+pub fn unit(marks: Marks, size: usize) -> Vec<u8> {
+    let mut unit = vec![0; 2 * size];
+    plain::escape(&bytes(marks, size), &mut unit).expect("the buffer is large enough");
+    unit.truncate(size);
+    unit
+}
+
+/// A duration of two periods, a start code, and the start of a frame's slice.
+const FRAME: &[u8] = b"\x4E\x01\xFF\x02\x02\x00\x02\x80\x00\x00\x01\x26\x01\x80";
+
+/// An animated file of `size` bytes, with a frame in each MiB of its data.
+pub fn animation(marks: Marks, size: usize) -> Vec<u8> {
+    const PART: usize = 1 << 20;
+    let mut file = file(2, false, size);
+    let record = plain::read(&file).expect("the file is valid");
+    let data = &mut file[record.data.range()];
+    data.copy_from_slice(&unit(marks, data.len()));
+    for start in (0..data.len()).step_by(PART) {
+        data[start..][..FRAME.len()].copy_from_slice(FRAME);
+        if start > 0 {
+            data[start - 3..start].copy_from_slice(&[0, 0, 1]);
+        }
+    }
+    file
 }
 
 fn set_entries(record: &mut Record, entries: usize) {

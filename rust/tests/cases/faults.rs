@@ -14,6 +14,7 @@ pub fn spoil(model: &mut Model, random: &mut Random) {
         7 => spoil_entries(model, random),
         8 => spoil_animation(model, random),
         9 => spoil_control(model, random),
+        10 => model.data = spoiled_data(random),
         _ => spoil_headers(model, random),
     }
 }
@@ -131,8 +132,18 @@ fn spoil_headers(model: &mut Model, random: &mut Random) {
         _ => spoil_rule(header, bit_depth, random),
     }
     if random.one_in(8) {
-        model.data = part(random);
+        model.data = spoiled_data(random);
     }
+}
+
+/// No data, or data that begins with a start code.
+pub fn spoiled_data(random: &mut Random) -> Vec<u8> {
+    let start: &[u8] = match random.below(3) {
+        0 => return Vec::new(),
+        1 => &[0, 0, 1],
+        _ => &[0, 0, 0, 1],
+    };
+    [start, &part(random)].concat()
 }
 
 /// Fields and length disagree.

@@ -29,6 +29,20 @@ pub fn long_payload(size: usize) -> Vec<u8> {
     file
 }
 
+/// A file of `size` bytes whose only unit, a frame, has emulation prevention here and there up to its end.
+pub fn long_slice(size: usize) -> Vec<u8> {
+    let mut file = FILE_A.to_vec();
+    file.push(0x80);
+    file.resize(size, 0x58);
+    for at in [100, 65_536, size / 2, size - 3] {
+        file[at..at + 3].copy_from_slice(&[0, 0, 3]);
+        if let Some(next) = file.get_mut(at + 3) {
+            *next = 1;
+        }
+    }
+    file
+}
+
 /// A record whose 16 entries are all the same megabyte, and whose file is around the limit.
 pub fn record_at_limit(random: &mut Random, source: Vec<u8>) -> Case {
     let mut numbers = vec![0; NUMBERS];

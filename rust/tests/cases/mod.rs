@@ -1,12 +1,16 @@
-//! Cases for the comparison: files and records, valid and spoiled, from a generator with a fixed seed.
+//! Cases for the comparison: files, records and slices, valid and spoiled, from a generator with a fixed seed.
 
 pub mod bytes;
 pub mod faults;
+pub mod frames;
 pub mod header;
 pub mod large;
 pub mod model;
 pub mod random;
 pub mod records;
+pub mod sei;
+pub mod slices;
+pub mod units;
 
 pub use random::Random;
 

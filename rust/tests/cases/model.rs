@@ -67,7 +67,7 @@ impl Model {
             entries,
             alpha_header: Header::valid(random, bit_depth),
             color_header: Header::valid(random, bit_depth),
-            data: part(random),
+            data: data(random),
             wrong: None,
         }
     }
@@ -195,6 +195,24 @@ fn entry(random: &mut Random, is_control: bool) -> Entry {
     Entry {
         tag,
         payload: part(random),
+    }
+}
+
+/// Data that a file may have: not empty, and no start code at its start, though at times nearly one.
+fn data(random: &mut Random) -> Vec<u8> {
+    const STARTS: [&[u8]; 8] = [
+        &[0x26, 0x01],
+        &[0x26],
+        &[0x01],
+        &[0, 1],
+        &[0, 0, 2],
+        &[0, 0, 0, 2],
+        &[0, 0, 0, 0],
+        &[0, 0, 0, 0, 1],
+    ];
+    match random.below(16) {
+        0 => vec![0; random.within(1, 3)],
+        _ => [random.pick(&STARTS), &part(random)].concat(),
     }
 }
 

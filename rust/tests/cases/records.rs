@@ -1,6 +1,6 @@
 //! Records to be written, as lists of numbers, with their sources.
 
-use super::faults::spoiled_control;
+use super::faults::{spoiled_control, spoiled_data};
 use super::model::Model;
 use super::Random;
 use crate::plain::{read_list, NUMBERS, RECORD};
@@ -118,7 +118,7 @@ impl Case {
     /// Presence flags and fields that do not go together, or that only a rule forbids.
     fn contradict(&mut self, random: &mut Random) {
         let header = HEADERS + 25 * random.below(2);
-        match random.below(9) {
+        match random.below(10) {
             0 => self.numbers[ANIMATION] = 1,
             1 => self.numbers[random.pick(&[1, 4, 5])] ^= 1,
             2 => self.numbers[header + random.pick(&[6, 13, 14])] ^= 1,
@@ -127,8 +127,17 @@ impl Case {
             5 => self.set_extension(header, random),
             6 => self.repeat_control(random),
             7 => self.reach(random),
+            8 => self.spoil_data(random),
             _ => self.numbers[random.pick(&[0, 2, 3, 8, 9])] = random.pick(&[0, 1, 5, 6, 7, 255]),
         }
+    }
+
+    /// No data, or data that begins with a start code.
+    fn spoil_data(&mut self, random: &mut Random) {
+        let data = spoiled_data(random);
+        self.numbers[DATA] = self.source.len() as u64;
+        self.numbers[DATA + 1] = data.len() as u64;
+        self.source.extend(data);
     }
 
     fn set_pcm(&mut self, header: usize, random: &mut Random) {

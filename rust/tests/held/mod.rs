@@ -2,14 +2,18 @@
 
 mod buffers;
 mod canonical;
+mod escape;
+mod frames;
 mod read;
 mod table;
 mod write;
 
 pub use buffers::Buffers;
 pub use canonical::{canonical, canonical_in};
+pub use escape::escape;
+pub use frames::frames;
 pub use read::read;
-pub use table::{Call, Table};
+pub use table::{Call, Cases, Table};
 pub use write::{write, write_in};
 
 use bpg::Refusal;

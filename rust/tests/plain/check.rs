@@ -3,7 +3,7 @@
 use bpg::{Entry, HevcHeader, Reason, Record, Span};
 
 use super::header::broken;
-use super::reader::{broken_flags, loop_numbers};
+use super::reader::{broken_flags, data_allowed, loop_numbers};
 
 /// The first reason to refuse a record over its source; the size is judged later.
 pub fn check(record: &Record, source: &[u8]) -> Result<(), Reason> {
@@ -20,7 +20,9 @@ pub fn check(record: &Record, source: &[u8]) -> Result<(), Reason> {
     if has_alpha(record) {
         check_header(&record.alpha_header, bit_depth)?;
     }
-    check_header(&record.color_header, bit_depth)
+    check_header(&record.color_header, bit_depth)?;
+    let data = &source[record.data.range()];
+    require(data_allowed(data), Reason::BadDataStart)
 }
 
 fn require(holds: bool, reason: Reason) -> Result<(), Reason> {

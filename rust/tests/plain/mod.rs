@@ -1,17 +1,25 @@
-//! An independent reader, writer and canonicalizer in plain Rust, made from the papers alone and not
-//! from the proved library. The comparison holds the library to it, and it is the benchmark's baseline.
+//! An independent reader, writer and canonicalizer in plain Rust, and the calls on frames and emulation
+//! prevention, made from the papers alone and not from the proved library. The comparison holds the library
+//! to it, and it is the benchmark's baseline.
 
 mod bits;
 mod canonical;
 mod check;
 mod cursor;
 mod encode;
+mod escape;
+mod frames;
 mod header;
 mod list;
+mod marks;
+mod nal;
 mod reader;
+mod sei;
 mod writer;
 
 pub use canonical::canonicalize;
+pub use escape::{escape, unescape};
+pub use frames::{frame_count, frames};
 pub use list::{read_list, record_of, NUMBERS, RECORD};
 pub use reader::read;
 pub use writer::{write, write_list};

@@ -29,8 +29,17 @@ pub fn read(file: &[u8]) -> Result<Record, Refusal> {
         return refuse(Reason::BadDataLength, item);
     }
     headers(&mut cursor, &mut record)?;
+    if !data_allowed(&file[cursor.at..]) {
+        return refuse(Reason::BadDataStart, cursor.at);
+    }
     record.data = span(cursor.at, cursor.left());
     Ok(record)
+}
+
+/// Data is there, and does not begin with a start code of three or four bytes.
+#[inline]
+pub fn data_allowed(data: &[u8]) -> bool {
+    !data.is_empty() && !data.starts_with(&[0, 0, 1]) && !data.starts_with(&[0, 0, 0, 1])
 }
 
 #[inline]
