@@ -40,7 +40,7 @@ impl Header {
         let min_cb = random.within(3, 6);
         let ctb = random.within(min_cb.max(4), 6);
         let min_tb = random.within(2, min_cb - 1);
-        let max_tb = random.within(min_tb, ctb);
+        let max_tb = random.within(min_tb, ctb.min(5));
         let depth = random.within(0, ctb - min_tb);
         let codes = [min_cb - 3, ctb - min_cb, min_tb - 2, max_tb - min_tb, depth];
         Header {
@@ -85,12 +85,13 @@ impl Header {
 
 impl Pcm {
     fn valid(random: &mut Random, bit_depth: usize, min_cb: usize, ctb: usize) -> Pcm {
-        let min = random.within(min_cb, ctb);
+        let (least, most) = (min_cb.min(5), ctb.min(5));
+        let min = random.within(least, most);
         let depth = |random: &mut Random| random.below(bit_depth) as u8;
         Pcm {
             depths: [depth(random), depth(random)],
             min: min as u32 - 3,
-            diff: random.within(0, ctb - min) as u32,
+            diff: random.within(0, most - min) as u32,
             loop_filter: random.flag(),
         }
     }

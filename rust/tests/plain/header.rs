@@ -84,12 +84,15 @@ fn coding_blocks(header: &HevcHeader) -> (u64, u64) {
     (smallest, smallest + diff)
 }
 
+/// The largest transform and PCM blocks are 32 by 32, whatever the coding blocks are.
+const LARGEST: u64 = 5;
+
 fn sizes(header: &HevcHeader) -> bool {
     let (min_cb, ctb) = coding_blocks(header);
     let min_tb = u64::from(header.log2_min_transform_block_size_minus2) + 2;
     let max_tb = min_tb + u64::from(header.log2_diff_max_min_transform_block_size);
     let depth = u64::from(header.max_transform_hierarchy_depth_intra);
-    (4..=6).contains(&ctb) && min_tb < min_cb && max_tb <= ctb && depth <= ctb - min_tb
+    (4..=6).contains(&ctb) && min_tb < min_cb && max_tb <= ctb.min(LARGEST) && depth <= ctb - min_tb
 }
 
 fn pcm(header: &HevcHeader, bit_depth: u32) -> bool {
@@ -98,6 +101,6 @@ fn pcm(header: &HevcHeader, bit_depth: u32) -> bool {
     let diff = u64::from(header.log2_diff_max_min_pcm_luma_coding_block_size);
     u32::from(header.pcm_sample_bit_depth_luma_minus1) < bit_depth
         && u32::from(header.pcm_sample_bit_depth_chroma_minus1) < bit_depth
-        && min_pcm >= min_cb
-        && min_pcm + diff <= ctb
+        && min_pcm >= min_cb.min(LARGEST)
+        && min_pcm + diff <= ctb.min(LARGEST)
 }
