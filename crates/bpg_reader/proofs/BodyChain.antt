@@ -5,7 +5,7 @@ use mathlib.Core.List.{List}
 use Prim.Native.Nat.{ℕ, _-_, _≤_}
 use lib.ListN.{length, drop, length-drop}
 use lib.Seq.{drop-drop}
-use Rattle.bpg_codec.specs.Outcome.{Outcome, ok, _>>=_, guard, Decoded, decoded}
+use Rattle.bpg_codec.specs.Outcome.{Outcome, ok, _>>=_, guard, Decoded}
 use Rattle.bpg_codec.specs.Codec.{atOwn}
 use Rattle.bpg_codec.specs.Regions.{packed}
 use Rattle.bpg_codec.proofs.Outcome.{ok-injective, unbind, bind-assoc, bind-cong}
@@ -14,7 +14,7 @@ use Rattle.bpg_ue7.proofs.Advances.{ue7-advances}
 use Rattle.bpg_format.specs.Limits.{maxFile}
 use Rattle.bpg_format.specs.declared.record.Header.{Header}
 use Rattle.bpg_format.specs.Zero.{zeroHeader}
-use Rattle.bpg_format.specs.Content.{Flags, Content, hasAlpha, bitDepth}
+use Rattle.bpg_format.specs.Content.{Flags, Extension, Content, hasAlpha, bitDepth}
 use Rattle.bpg_format.specs.Rules.{hasAnimation}
 use Rattle.bpg_format.specs.Tests.{countsToEnd, noForbiddenBit, hevcAllowed}
 use Rattle.bpg_format.specs.FileCodec.{headerFields, header, alphaHeader}
@@ -40,88 +40,62 @@ module _ (file : List ℕ) (p : ℕ) (x : Decoded ℕ Header) where
   header-left : (depth : ℕ) → readHeader depth p (drop p file) ≡ ok x → x .rest ≡ drop (x .next) file
   header-left depth e = left-after (header-advances depth) file 0 p x (header-chain depth 0 p (drop p file) ∙ e)
 
-  pub header-inside : (depth : ℕ) → p ≤ length file → readHeader depth p (drop p file) ≡ ok x → x .next ≤ length file
+  header-inside : (depth : ℕ) → p ≤ length file → readHeader depth p (drop p file) ≡ ok x → x .next ≤ length file
   header-inside depth h e = within (header-advances depth) file 0 p h x (header-chain depth 0 p (drop p file) ∙ e)
 
   alpha-left : (f : Flags) → readAlphaHeader f p (drop p file) ≡ ok x → x .rest ≡ drop (x .next) file
   alpha-left f e = left-after (alpha-advances f) file 0 p x (alpha-chain f 0 p (drop p file) ∙ e)
 
-  pub alpha-inside : (f : Flags) → p ≤ length file → readAlphaHeader f p (drop p file) ≡ ok x → x .next ≤ length file
+  alpha-inside : (f : Flags) → p ≤ length file → readAlphaHeader f p (drop p file) ≡ ok x → x .next ≤ length file
   alpha-inside f h e = within (alpha-advances f) file 0 p h x (alpha-chain f 0 p (drop p file) ∙ e)
 
--- ---- both headers
+-- ---- the chain from each step on
 
-module _ (file : List ℕ) (short : length file ≤ maxFile) (f : Flags) (p : ℕ) where
-  abbrev depth : ℕ
-  depth = bitDepth f
+abbrev pub headersOf : List ℕ → Head → Outcome (Header × Header × ℕ)
+headersOf file h = headersIn file (hasAlpha (h .flags)) (bitDepth (h .flags)) (headersStart h)
 
-  alpha-is : alphaIn file (hasAlpha f) depth p ≡ readAlphaHeader f p (drop p file)
-  unfolding readAlphaHeader
-  alpha-is = rw (in-file file depth p short)
+-- the headers; what is left is the data
+abbrev pub fromHeaders : List ℕ → Head → List Extension → Outcome Content
+fromHeaders file h es = headersOf file h >>= λ x. ok (bodyContent h es (x .0) (x .1) (drop (x .2) file))
 
-  -- the headers, and what follows them
-  headers-then : (k : Header → Header → List ℕ → Content)
-      → (readAlphaHeader f p (drop p file) >>= λ a. readHeader depth (a .next) (a .rest) >>= λ c. ok (k (a .value) (c .value) (c .rest)))
-      ≡ (headersIn file (hasAlpha f) depth p >>= λ x. ok (k (x .0) (x .1) (drop (x .2) file)))
-  unfolding headersIn
-  headers-then k =
-      bind-cong (readAlphaHeader f p (drop p file)) (λ a. readHeader depth (a .next) (a .rest) >>= λ c. ok (k (a .value) (c .value) (c .rest)))
-      (λ a. headerIn file depth (a .next) >>= λ c. ok (k (a .value) (c .value) (drop (c .next) file)))
-      (λ a e.
-      rw (alpha-left file p a f e, in-file file depth (a .next) short)
-      (bind-cong (readHeader depth (a .next) (drop (a .next) file)) (λ c. ok (k (a .value) (c .value) (c .rest)))
-      (λ c. ok (k (a .value) (c .value) (drop (c .next) file))) (λ c g. ap (λ (l : List ℕ). ok (k (a .value) (c .value) l)) (header-left file (a .next) c depth g))))
-      ∙ rw (sym alpha-is) (simp bind-assoc)
-
-  pub both-headers : {Q : Type 0} (x : Header × Header × ℕ) → headersIn file (hasAlpha f) depth p ≡ ok x
-      → ((q : ℕ) → readAlphaHeader f p (drop p file) ≡ ok (decoded (x .0) q (drop q file))
-      → readHeader depth q (drop q file) ≡ ok (decoded (x .1) (x .2) (drop (x .2) file)) → Q) → Q
-  unfolding headersIn
-  both-headers x e use-parts =
-      unbind (alphaIn file (hasAlpha f) depth p) _ e λ a e1 k.
-      unbind (headerIn file depth (a .next)) _ k λ c e2 e3.
-      let a-is = sym alpha-is ∙ e1 in
-      let c-is = sym (in-file file depth (a .next) short) ∙ e2 in
-      let x-is : (a .value, c .value, c .next) ≡ x = ok-injective e3 in
-      use-parts (a .next)
-      (a-is ∙ ap (λ (l : List ℕ). ok (decoded (a .value) (a .next) l)) (alpha-left file p a f a-is)
-      ∙ ap (λ (y : Header × Header × ℕ). ok (decoded (y .0) (a .next) (drop (a .next) file))) x-is)
-      (c-is ∙ ap (λ (l : List ℕ). ok (decoded (c .value) (c .next) l)) (header-left file (a .next) c depth c-is)
-      ∙ ap (λ (y : Header × Header × ℕ). ok (decoded (y .1) (y .2) (drop (y .2) file))) x-is)
-
--- ---- the body
+-- after the block: 14, then 10
+abbrev pub afterBlock : List ℕ → Head → List Extension → Outcome Content
+afterBlock file h es =
+    guard (not (h .flags .animation) || hasAnimation es) 14 5 >>= λ _.
+    guard (countsToEnd (h .dataLength) (length file - headersStart h)) 10 (h .dataLengthAt) >>= λ _.
+    fromHeaders file h es
 
 module _ (file : List ℕ) (short : length file ≤ maxFile) (h : Head) where
-  abbrev rest : List ℕ
-  rest = drop (h .end) file
+  abbrev depth : ℕ
+  depth = bitDepth (h .flags)
 
-  pub body-rest : drop (h .extensionLength) rest ≡ drop (headersStart h) file
-  body-rest = drop-drop (h .extensionLength) (h .end) file
+  abbrev start : ℕ
+  start = headersStart h
 
-  pub body-chain : readBody h rest
-      ≡ (readBlock h rest >>= λ es.
-      guard (not (h .flags .animation) || hasAnimation es) 14 5 >>= λ _.
-      guard (countsToEnd (h .dataLength) (length file - headersStart h)) 10 (h .dataLengthAt) >>= λ _.
-      headersIn file (hasAlpha (h .flags)) (bitDepth (h .flags)) (headersStart h) >>= λ x.
-      ok (bodyContent h es (x .0) (x .1) (drop (x .2) file)))
+  alpha-is : alphaIn file (hasAlpha (h .flags)) depth start ≡ readAlphaHeader (h .flags) start (drop start file)
+  unfolding readAlphaHeader
+  alpha-is = rw (in-file file depth start short)
+
+  pub headers-inside : start ≤ length file → (x : Header × Header × ℕ) → headersOf file h ≡ ok x → x .2 ≤ length file
+  unfolding headersIn
+  headers-inside inside x e =
+      unbind (alphaIn file (hasAlpha (h .flags)) depth start) _ e λ a e1 k.
+      unbind (headerIn file depth (a .next)) _ k λ c e2 e3.
+      let begins = alpha-inside file start a (h .flags) inside (sym alpha-is ∙ e1) in
+      rw (← ok-injective e3) (header-inside file (a .next) c depth begins (sym (in-file file depth (a .next) short) ∙ e2))
+
+  headers-then : (es : List Extension)
+      → (readAlphaHeader (h .flags) start (drop start file) >>= λ a. readHeader depth (a .next) (a .rest) >>= λ c. ok (bodyContent h es (a .value) (c .value) (c .rest)))
+      ≡ fromHeaders file h es
+  unfolding headersIn
+  headers-then es =
+      bind-cong (readAlphaHeader (h .flags) start (drop start file)) _ (λ a. headerIn file depth (a .next) >>= λ c. ok (bodyContent h es (a .value) (c .value) (drop (c .next) file)))
+      (λ a e.
+      rw (alpha-left file start a (h .flags) e, in-file file depth (a .next) short)
+      (bind-cong (readHeader depth (a .next) (drop (a .next) file)) _ _
+      (λ c g. ap (λ (l : List ℕ). ok (bodyContent h es (a .value) (c .value) l)) (header-left file (a .next) c depth g))))
+      ∙ rw (sym alpha-is) (simp bind-assoc)
+
+  pub body-chain : readBody h (drop (h .end) file) ≡ (readBlock h (drop (h .end) file) >>= afterBlock file h)
   unfolding readBody
-  body-chain =
-      rw (body-rest, length-drop (headersStart h) file)
-      (bind-cong (readBlock h rest)
-      (λ es.
-      guard (not (h .flags .animation) || hasAnimation es) 14 5 >>= λ _.
-      guard (countsToEnd (h .dataLength) (length file - headersStart h)) 10 (h .dataLengthAt) >>= λ _.
-      readAlphaHeader (h .flags) (headersStart h) (drop (headersStart h) file) >>= λ a.
-      readHeader (bitDepth (h .flags)) (a .next) (a .rest) >>= λ c.
-      ok (bodyContent h es (a .value) (c .value) (c .rest)))
-      (λ es.
-      guard (not (h .flags .animation) || hasAnimation es) 14 5 >>= λ _.
-      guard (countsToEnd (h .dataLength) (length file - headersStart h)) 10 (h .dataLengthAt) >>= λ _.
-      headersIn file (hasAlpha (h .flags)) (bitDepth (h .flags)) (headersStart h) >>= λ x.
-      ok (bodyContent h es (x .0) (x .1) (drop (x .2) file)))
-      (λ es _.
-      ap
-      (λ (m : Outcome Content).
-      guard (not (h .flags .animation) || hasAnimation es) 14 5 >>= λ _.
-      guard (countsToEnd (h .dataLength) (length file - headersStart h)) 10 (h .dataLengthAt) >>= λ _. m)
-      (headers-then file short (h .flags) (headersStart h) (bodyContent h es))))
+  body-chain = rw (drop-drop (h .extensionLength) (h .end) file, length-drop start file) (simp headers-then)

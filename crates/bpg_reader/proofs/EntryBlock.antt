@@ -10,20 +10,22 @@ use Rattle.bpg_codec.proofs.Lists.{take-drop}
 use Rattle.bpg_format.specs.Limits.{maxFile}
 use Rattle.bpg_format.specs.Read.{Head, animationOf, readEntries, readBlock}
 use Rattle.bpg_read_entries.specs.Blocks.{refusedBlock, blockAnswer, entriesIn}
-use Rattle.bpg_reader.specs.Bodies.{headersStart}
+use Rattle.bpg_reader.specs.Bodies.{HeadRead, headersStart}
 
-module _ (file : List ℕ) (short : length file ≤ maxFile) (h : Head) (inside : h .end ≤ length file) where
-  pub block-too-large : length file - h .end < h .extensionLength
-      → refusedBlock 2 (h .extensionLengthAt) ≡ blockAnswer (h .end) (readBlock h (drop (h .end) file))
+module _ {file : List ℕ} {h : Head} (k : HeadRead file h) where
+  abbrev after : List ℕ
+  after = drop (h .end) file
+
+  pub block-too-large : length file - h .end < h .extensionLength → refusedBlock 2 (h .extensionLengthAt) ≡ blockAnswer (h .end) (readBlock h after)
   unfolding readBlock
-  block-too-large n = rw (lt-leb (h .extensionLength) (length (drop (h .end) file)) (omega (arith, length-drop (h .end) file)))
+  block-too-large n = rw (lt-leb (h .extensionLength) (length after) (omega (arith, length-drop (h .end) file)))
 
-  pub block-empty : h .extensionLength ≡ 0 → refusedBlock 0 0 ≡ blockAnswer (h .end) (readBlock h (drop (h .end) file))
+  pub block-empty : h .extensionLength ≡ 0 → refusedBlock 0 0 ≡ blockAnswer (h .end) (readBlock h after)
   unfolding readBlock readEntries animationOf
-  block-empty e = rw (e, le-leb 0 (length (drop (h .end) file)) (omega arith))
+  block-empty e = rw (e, le-leb 0 (length after) (omega arith))
 
   pub block-region : h .extensionLength ≤ length file - h .end
-      → blockAnswer (h .end) (entriesIn (take (headersStart h - 0) file) (h .end)) ≡ blockAnswer (h .end) (readBlock h (drop (h .end) file))
+      → blockAnswer (h .end) (entriesIn (take (headersStart h - 0) file) (h .end)) ≡ blockAnswer (h .end) (readBlock h after)
   unfolding entriesIn readBlock
   block-region n =
       let whole : headersStart h - 0 ≡ headersStart h = omega arith in
@@ -31,6 +33,6 @@ module _ (file : List ℕ) (short : length file ≤ maxFile) (h : Head) (inside 
       rw (
         whole,
         le-leb (length (take (headersStart h) file)) maxFile (omega arith),
-        le-leb (h .extensionLength) (length (drop (h .end) file)) (omega (arith, length-drop (h .end) file)),
+        le-leb (h .extensionLength) (length after) (omega (arith, length-drop (h .end) file)),
         take-drop (h .extensionLength) (h .end) file,
       )

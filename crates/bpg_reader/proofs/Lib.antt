@@ -1,4 +1,5 @@
 -- Laws of reading a file.
+pub mod HeadOf
 pub mod EntryBlock
 pub mod BodyChain
 pub mod BodyRecord

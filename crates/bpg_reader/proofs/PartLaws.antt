@@ -1,9 +1,9 @@
 -- The parts that a file's record names lie in the file.
 use mathlib.Core.Path.{_≡_, refl, sym, ap, _∙_, subst}
-use mathlib.Core.List.{List, [], _∷_, _++_, map}
-use Prim.Native.Nat.{ℕ, zero, suc, _+_, _-_, _≤_, _<_}
+use mathlib.Core.List.{List, []}
+use Prim.Native.Nat.{ℕ, _-_, _≤_, _<_}
 use native.Mathlib.Omega.{arith}
-use lib.ListN.{length, take, drop, getD, length-append, length-map, length-take, List·getD-eq-default}
+use lib.ListN.{length, take, drop, getD, length-take, List·getD-eq-default}
 use lib.Seq.{getD-take}
 use borrow.Author.Tests.{lt-ltb, le-ltb}
 use Rattle.bpg_codec.specs.Outcome.{Outcome, ok, error}
@@ -11,16 +11,15 @@ use Rattle.bpg_codec.specs.Lawful.{All, Byte}
 use Rattle.bpg_codec.proofs.Lists.{either-way}
 use Rattle.bpg_codec.proofs.Select.{select-true, select-false}
 use Rattle.bpg_format.specs.Limits.{maxEntries}
-use Rattle.bpg_format.specs.declared.record.Range.{Range}
 use Rattle.bpg_format.specs.declared.record.Entry.{Entry}
 use Rattle.bpg_format.specs.declared.answer.Reading.{Reading}
-use Rattle.bpg_format.specs.Zero.{range, zeroEntry}
+use Rattle.bpg_format.specs.Zero.{zeroEntry}
 use Rattle.bpg_format.specs.Content.{Content}
 use Rattle.bpg_format.specs.Read.{readContent}
 use Rattle.bpg_format.specs.Records.{recordOf, bytesIn, usedEntries, answerOf, readFile}
-use Rattle.bpg_format.specs.Parts.{entryOf, payloadOf, dataOf, rangesOf, rangeEnd}
+use Rattle.bpg_format.specs.Parts.{entryOf, payloadOf, dataOf, rangeEnd}
 use Rattle.bpg_format.proofs.ReadingLaws.{read-is}
-use Rattle.bpg_format.proofs.RangeLaws.{ranges-in-order, data-last}
+use Rattle.bpg_format.proofs.RangeLaws.{ranges-in-order, data-last, payload-part, parts-length}
 use Rattle.bpg_reader.specs.declared.parts.EntryAt.{EntryAt}
 use Rattle.bpg_reader.specs.Entries.{entryAnswer}
 
@@ -60,11 +59,6 @@ module _ (f : List ℕ) (k : ℕ) where
 
 -- ---- within the file
 
-nth-range : (es : List Entry) (d : Range) (k : ℕ) → k < length es → getD (map (λ (e : Entry). e .payload) es ++ (d ∷ [])) k (range 0 0) ≡ getD es k zeroEntry .payload
-nth-range [] d k h = absurd (omega arith)
-nth-range (e ∷ es) d zero h = refl
-nth-range (e ∷ es) d (suc k) h = nth-range es d k (omega arith)
-
 -- a fact of every reading follows from the contents and the refusals
 by-outcome : (f : List ℕ) (P : Reading → Type 0) → ((c : Content) → readContent f ≡ ok c → P (answerOf (ok c)))
     → ((s o : ℕ) → P (answerOf (error s o))) → P (readFile f)
@@ -94,11 +88,9 @@ module _ (f : List ℕ) (bytes : All Byte f) where
     content-inside c e =
         let s = read-is f bytes c e in
         let es = usedEntries (recordOf c) in
-        let size : length (rangesOf (recordOf c)) ≡ length es + 1 =
-        length-append (map (λ (x : Entry). x .payload) es) (recordOf c .«data» ∷ []) ∙ ap (λ (n : ℕ). n + 1) (length-map es (λ (x : Entry). x .payload))
-        in
+        let d = recordOf c .«data» in
         either-way (length es) k (none-inside es) λ h.
-        rw (sym (nth-range es (recordOf c .«data») k h)) (omega (arith, ranges-in-order c (s .0) .within k (omega (arith, size)), ap length (s .1)))
+        rw (payload-part es d k h) (omega (arith, ranges-in-order c (s .0) .within k (omega (arith, parts-length es d)), ap length (s .1)))
 
     pub payload-inside : rangeEnd (entryOf f k .payload) ≤ length f
     unfolding entryOf

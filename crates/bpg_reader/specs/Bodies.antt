@@ -1,10 +1,15 @@
 -- What the reader of the body (document 01, "Order of the file", items 4 to 7) is given and puts together.
+use mathlib.Core.Path.{_≡_}
 use mathlib.Core.List.{List}
-use Prim.Native.Nat.{ℕ, _+_}
+use Prim.Native.Nat.{ℕ, _+_, _≤_}
+use lib.ListN.{length}
+use Rattle.bpg_codec.specs.Outcome.{ok}
+use Rattle.bpg_codec.specs.Lawful.{All, Byte}
 use Rattle.bpg_ue7.specs.Ue7.{notZero}
+use Rattle.bpg_format.specs.Limits.{maxFile}
 use Rattle.bpg_format.specs.declared.record.Header.{Header}
 use Rattle.bpg_format.specs.Content.{Extension, Content}
-use Rattle.bpg_format.specs.Read.{Head, animationOf}
+use Rattle.bpg_format.specs.Read.{Head, readHead, animationOf}
 use Rattle.bpg_read_head.specs.declared.head.Head.{Head as HeadReading}
 use Rattle.bpg_read_head.specs.FlagBytes.{flagFields}
 
@@ -21,6 +26,14 @@ headFields h =
       extensionLengthAt = h .«extension_length_at» .0;
       end = h .end .0;
     }
+
+-- what is known of a file that is not too long, and of its head; the last two follow from the others
+pub record HeadRead (file : List ℕ) (h : Head) : Type 0 where
+  pub bytes : All Byte file
+  pub short : length file ≤ maxFile
+  pub read : readHead file ≡ ok h
+  pub end-inside : h .end ≤ length file
+  pub depth-limit : h .flags .bitDepthMinus8 ≤ 6
 
 -- where the headers begin
 abbrev pub headersStart : Head → ℕ

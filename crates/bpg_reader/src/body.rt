@@ -10,22 +10,16 @@ use bpg_read_head::head::Head;
 use bpg_read_headers::headers;
 ghost use mathlib.Core.Path.{_≡_};
 ghost use mathlib.Core.Bool.{not, _||_};
-ghost use Prim.Native.Nat.{_≤_};
-ghost use lib.ListN.{length as count, drop};
-ghost use Rattle.bpg_codec.specs.Outcome.{ok};
-ghost use Rattle.bpg_format.specs.Limits.{maxFile};
+ghost use lib.ListN.{drop};
 ghost use Rattle.bpg_format.specs.Tests.{countsToEnd};
-ghost use Rattle.bpg_format.specs.Read.{readHead, readBlock, readBody};
+ghost use Rattle.bpg_format.specs.Read.{readBlock, readBody};
 ghost use Rattle.bpg_format.specs.Records.{answerOf};
 ghost use Rattle.bpg_read_entries.specs.Blocks.{blockAnswer};
-ghost use Rattle.bpg_reader.specs.Bodies.{headFields};
+ghost use Rattle.bpg_reader.specs.Bodies.{headFields, HeadRead};
 
 // The entries of the extension block. Without the extension flag its length is 0.
-// `block::read` is called in two places: called in one, it would be compiled into this function and those that call it, whose
-// many values leave its loop no registers.
 fn entries(file: &[u8], head: Head) -> Block
-    requires { ⌜ count (now file) ≤ maxFile ⌝ }
-    requires { ⌜ head .end .0 ≤ count (now file) ⌝ }
+    requires { ⌜ HeadRead (now file) (headFields head) ⌝ }
     ensures { λ r. ⌜ r ≡ blockAnswer (head .end .0) (readBlock (headFields head) (drop (head .end .0) (now (file .entry)))) ⌝ }
 {
     let length = head.extension_length as usize;
@@ -36,9 +30,6 @@ fn entries(file: &[u8], head: Head) -> Block
         return block::none();
     }
     let end = head.end.0 + length;
-    if head.flags.animation_flag {
-        return block::read(&file[0..end], head.end);
-    }
     block::read(&file[0..end], head.end)
 }
 
@@ -58,8 +49,7 @@ fn reaches_end(data_length: u32, size: usize) -> bool
 
 // The body of a file whose head this is.
 pub(crate) fn read(file: &[u8], head: Head) -> Reading
-    requires { ⌜ count (now file) ≤ maxFile ⌝ }
-    requires { ⌜ readHead (now file) ≡ ok (headFields head) ⌝ }
+    requires { ⌜ HeadRead (now file) (headFields head) ⌝ }
     ensures { λ r. ⌜ r ≡ answerOf (readBody (headFields head) (drop (head .end .0) (now (file .entry)))) ⌝ }
 {
     let block = entries(file, head);
