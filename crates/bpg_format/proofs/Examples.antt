@@ -37,7 +37,12 @@ pub record Answers : Type 0 where
   pub c-count : canonicalFile fileC (replicate 22 0) .count ≡ 22
 
 computed : All Holds examples × Answers
-unfolding select bits unpack pack padded groups ue7Bytes ue7Rest ue7Decode leadingZeros prefixDecode expGolombBits extensionPart headerBits headerBytes headersAndData dataLength fileOf noForbiddenBit pcmAllowed hevcAllowed dataAllowed readFlags readHead readAnimation animationOf readEntry readEntries readBlock readFields readHeader readAlphaHeader readBody readContent extensionLengthStart blockStart dataStart recordOf readFile pictureOf withChoices canonicalContent canonicalBytes canonicalOutcome canonicalBuffer rangesInSource unusedZero absentZero headerZero consistent checkAnimation checkEntries fieldsCoded checkHeader checkContent sizedFile checkRecord writeOutcome writeFile writeBuffer contentOf entryOf canonicalFile
+unfolding select bits unpack pack padded groups ue7Bytes ue7Rest ue7Decode leadingZeros prefixDecode expGolombBits extensionPart headerBits
+    headerBytes headersAndData dataLength fileOf noForbiddenBit pcmAllowed hevcAllowed dataAllowed readFlags readHead readAnimation animationOf
+    readEntry readEntries readBlock readFields readHeader readAlphaHeader readBody readContent extensionLengthStart blockStart dataStart
+    recordOf readFile pictureOf withChoices canonicalContent canonicalBytes canonicalOutcome canonicalBuffer rangesInSource unusedZero
+    absentZero headerZero consistent checkAnimation checkEntries fieldsCoded checkHeader checkContent sizedFile checkRecord writeOutcome
+    writeFile writeBuffer contentOf entryOf canonicalFile
 computed = (
   (refl, (refl, (refl, (refl, (refl, (refl, (refl, (refl, (refl, (refl, (refl, (refl, ((refl, refl), ((refl, refl), (refl, (refl, (refl, (refl, (refl, (refl, tt)))))))))))))))))))),
   record {

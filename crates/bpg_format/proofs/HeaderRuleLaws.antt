@@ -74,7 +74,7 @@ hevc-full depth h r = search (passes, pcm-full, r .pcm) depth 9
 
 -- ---- 15: the fields
 
--- an optional field: what holds of it where it is there, and its value where it is not
+-- an optional field: what holds of it if it is present, and its value if it is absent
 module _ {S A : Type 0} (b : Bool) (c : Codec S A) (e a : A) where
   pub opt-present : select b c (absent e) .Valid a → b ≡ true → c .Valid a
   opt-present v k = rw (select-true _ _ k) at v

@@ -48,5 +48,6 @@ examples =
     ∷ []
 
 hold : All Holds examples
-unfolding select offsetOf trimByte trimZeros unitsUpTo zerosAfter unescapeFrom keepsRules sumFrom payloadOf messageOf ends messagesUpTo sliceSays seiSays otherSays kindSays unitSays judged waitAfter timed framesFrom
+unfolding select offsetOf trimByte trimZeros unitsUpTo zerosAfter unescapeFrom keepsRules sumFrom payloadOf messageOf ends messagesUpTo
+    sliceSays seiSays otherSays kindSays unitSays judged waitAfter timed framesFrom
 hold = (refl, (refl, (refl, (refl, (refl, (refl, (refl, tt)))))))

@@ -27,7 +27,7 @@ use Rattle.bpg_format.proofs.SyntaxLaws.{extension-encode}
 use Rattle.bpg_format.proofs.Chain.{entry-chain}
 use Rattle.bpg_format.proofs.RecordLaws.{entries-length}
 use Rattle.bpg_read_entries.specs.declared.animation.Animation.{Animation}
-use Rattle.bpg_read_entries.specs.declared.entry.Step.{Step}
+use Rattle.bpg_read_entries.specs.declared.entry.EntryReading.{EntryReading}
 use Rattle.bpg_read_entries.specs.declared.block.Block.{Block}
 use Rattle.bpg_read_entries.specs.Animations.{foundAnimation}
 use Rattle.bpg_read_entries.specs.Blocks.{refusedBlock, blockAnswer, entriesIn}
@@ -56,7 +56,7 @@ module _ (seen : Bool) (p : ℕ) where
 -- ---- the loop
 
 -- the block with a step's entry, and with what is then known of the animation
-abbrev pub addedBlock : Block → Step → Bool → Animation → Block
+abbrev pub addedBlock : Block → EntryReading → Bool → Animation → Block
 addedBlock b t animated animation =
     record {
       status = b .status;
@@ -132,7 +132,7 @@ module _ (region : List ℕ) (p : ℕ) (block : Block) (next : ℕ) (inv : ReadS
       stops s o e = ap (blockAnswer p) (sym (step ∙ ap (λ (m : Outcome (Decoded ℕ Extension)). m >>= after) e))
 
       -- an entry was found and read
-      module _ (bytes : All Byte region) (t : Step) (s : Started region next t)
+      module _ (bytes : All Byte region) (t : EntryReading) (s : Started region next t)
           (d : readEntry (block .animated) next (drop next region) ≡ ok (entryOf region t)) where
         abbrev new : Extension
         new = entryOf region t .value

@@ -26,31 +26,31 @@ use Rattle.bpg_format.proofs.Chain.{entry-chain}
 use Rattle.bpg_format.proofs.RuleLaws.{loop-reads, loop-read}
 use Rattle.bpg_format.proofs.ReadingRefusals.{loop-refuses, extension-refuses}
 use Rattle.bpg_read_entries.specs.declared.animation.Animation.{Animation}
-use Rattle.bpg_read_entries.specs.declared.entry.Step.{Step}
+use Rattle.bpg_read_entries.specs.declared.entry.EntryReading.{EntryReading}
 use Rattle.bpg_read_entries.specs.Animations.{foundAnimation, animationAnswer}
-use Rattle.bpg_read_entries.specs.Entries.{EntryHead, entryStart, animationControl, refusedStep, foundStep, stepAnswer}
+use Rattle.bpg_read_entries.specs.Entries.{EntryHead, entryStart, animationControl, refusedEntry, foundEntry, entryHeadAnswer}
 
 -- ---- the start of an entry
 
 module _ (region : List ℕ) (at : ℕ) where
-  abbrev answer : Step
-  answer = stepAnswer (entryStart at (drop at region))
+  abbrev answer : EntryReading
+  answer = entryHeadAnswer (entryStart at (drop at region))
 
-  pub tag-refused : (s o : ℕ) → ue7 32 .decode at at (drop at region) ≡ error s o → refusedStep s o ≡ answer
+  pub tag-refused : (s o : ℕ) → ue7 32 .decode at at (drop at region) ≡ error s o → refusedEntry s o ≡ answer
   unfolding entryStart
   tag-refused s o e = rw e
 
   module _ (tag q : ℕ) (t : ue7 32 .decode at at (drop at region) ≡ ok (decoded tag q (drop q region))) where
-    pub size-refused : (s o : ℕ) → ue7 32 .decode q q (drop q region) ≡ error s o → refusedStep s o ≡ answer
+    pub size-refused : (s o : ℕ) → ue7 32 .decode q q (drop q region) ≡ error s o → refusedEntry s o ≡ answer
     unfolding entryStart
     size-refused s o e = rw (t, e)
 
     module _ (size start : ℕ) (z : ue7 32 .decode q q (drop q region) ≡ ok (decoded size start (drop start region))) where
-      pub too-long : length region - start < size → refusedStep 2 q ≡ answer
+      pub too-long : length region - start < size → refusedEntry 2 q ≡ answer
       unfolding entryStart
       too-long h = rw (t, z, lt-leb size (length (drop start region)) (omega (arith, length-drop start region)))
 
-      pub started : size ≤ length region - start → foundStep tag start size ≡ answer
+      pub started : size ≤ length region - start → foundEntry tag start size ≡ answer
       unfolding entryStart
       started h = rw (t, z, le-leb size (length (drop start region)) (omega (arith, length-drop start region)))
 
@@ -101,14 +101,14 @@ unfolding readEntry entryStart
 entry-steps seen p l = simp (once, bind-assoc)
 
 -- the entry that a step found, as it is read from the region
-abbrev payloadOf : List ℕ → Step → List ℕ
+abbrev payloadOf : List ℕ → EntryReading → List ℕ
 payloadOf region t = take (t .entry .payload .length) (drop (t .entry .payload .start) region)
 
-abbrev pub entryOf : List ℕ → Step → Decoded ℕ Extension
+abbrev pub entryOf : List ℕ → EntryReading → Decoded ℕ Extension
 entryOf region t = decoded (record { tag = t .entry .tag; payload = payloadOf region t }) (t .next .0) (drop (t .next .0) region)
 
 -- it lies in the region
-pub record Started (region : List ℕ) (p : ℕ) (t : Step) : Type 0 where
+pub record Started (region : List ℕ) (p : ℕ) (t : EntryReading) : Type 0 where
   pub is : entryStart p (drop p region)
       ≡ ok (decoded (record { tag = t .entry .tag; size = t .entry .payload .length }) (t .entry .payload .start) (drop (t .entry .payload .start) region))
   pub next : t .next .0 ≡ t .entry .payload .start + t .entry .payload .length
@@ -134,28 +134,28 @@ module _ (region : List ℕ) (seen : Bool) (p : ℕ) where
   abbrev step : Outcome (Decoded ℕ EntryHead)
   step = entryStart p (drop p region)
 
-  module _ (t : Step) (e : t ≡ stepAnswer step) where
+  module _ (t : EntryReading) (e : t ≡ entryHeadAnswer step) where
     pub step-refused : t .status ≢ 0 → entry ≡ error (t .status) (t .offset .0)
     step-refused n = entry-steps seen p (drop p region) ∙ by step e
       where
-        by : (m : Outcome (Decoded ℕ EntryHead)) → t ≡ stepAnswer m → (m >>= entered seen p) ≡ error (t .status) (t .offset .0)
-        by (ok x) e = absurd (n (ap (λ (y : Step). y .status) e))
-        by (error s o) e = ap (λ (y : Step). error (y .status) (y .offset .0)) (sym e)
+        by : (m : Outcome (Decoded ℕ EntryHead)) → t ≡ entryHeadAnswer m → (m >>= entered seen p) ≡ error (t .status) (t .offset .0)
+        by (ok x) e = absurd (n (ap (λ (y : EntryReading). y .status) e))
+        by (error s o) e = ap (λ (y : EntryReading). error (y .status) (y .offset .0)) (sym e)
 
     pub step-started : p ≤ length region → t .status ≡ 0 → Started region p t
     step-started h z = by step refl e
       where
-        by : (m : Outcome (Decoded ℕ EntryHead)) → step ≡ m → t ≡ stepAnswer m → Started region p t
+        by : (m : Outcome (Decoded ℕ EntryHead)) → step ≡ m → t ≡ entryHeadAnswer m → Started region p t
         by (ok x) d e =
             let i = start-inside region p x h d in
             subst (Started region p) (sym e) (record { is = d ∙ ap (λ (l : List ℕ). ok (decoded (x .value) (x .next) l)) (i .0); next = refl; inside = i .1 })
         by (error s o) d e =
             absurd
-            (subst ReadingStatus (sym (ap (λ (y : Step). y .status) e) ∙ z)
+            (subst ReadingStatus (sym (ap (λ (y : EntryReading). y .status) e) ∙ z)
             (extension-refuses seen .refuses p p (drop p region) s o
             (entry-chain seen p (drop p region) ∙ entry-steps seen p (drop p region) ∙ ap (λ (m : Outcome (Decoded ℕ EntryHead)). m >>= entered seen p) d)))
 
-  module _ (t : Step) (s : Started region p t) where
+  module _ (t : EntryReading) (s : Started region p t) where
     abbrev start : ℕ
     start = t .entry .payload .start
 

@@ -61,7 +61,8 @@ module _ (e : Extension) where
   unfolding animationOf
   loop-snoc [] h = refl
   loop-snoc (x ∷ es) h =
-      earlier (isAnimation x) (isAnimation e) (hasAnimation es) h (animationFrom (readAnimation 0 (x .payload))) (animationOf (es ++ one)) (animationFrom (readAnimation 0 (e .payload))) (animationOf es) (loop-snoc es)
+      let numbers : Extension → AnimationControl = λ y. animationFrom (readAnimation 0 (y .payload)) in
+      earlier (isAnimation x) (isAnimation e) (hasAnimation es) h (numbers x) (animationOf (es ++ one)) (numbers e) (animationOf es) (loop-snoc es)
 
 -- the entry at the end takes the place of the first zero entry
 set-end : (es : List Entry) (x y : Entry) (l : List Entry) → set (es ++ (y ∷ l)) (length es) x ≡ es ++ (x ∷ l)

@@ -11,7 +11,7 @@ use Rattle.bpg_format.specs.Limits.{maxFile}
 use Rattle.bpg_format.specs.Zero.{range, zeroEntry}
 use Rattle.bpg_format.specs.Content.{AnimationControl}
 use Rattle.bpg_format.specs.Read.{readAnimation}
-use Rattle.bpg_read_entries.specs.declared.entry.Step.{Step}
+use Rattle.bpg_read_entries.specs.declared.entry.EntryReading.{EntryReading}
 
 -- an entry without its payload
 pub record EntryHead : Type 0 where
@@ -31,16 +31,16 @@ entryStart p l =
 abbrev pub animationControl : (seen : Bool) (p start : ℕ) → List ℕ → Outcome AnimationControl
 animationControl seen p start l = guard (not seen) 13 p >>= λ _. readAnimation start l
 
-abbrev pub refusedStep : (status offset : ℕ) → Step
-refusedStep s o = record { status = s; offset = bytePos o; entry = zeroEntry; next = bytePos 0 }
+abbrev pub refusedEntry : (status offset : ℕ) → EntryReading
+refusedEntry s o = record { status = s; offset = bytePos o; entry = zeroEntry; next = bytePos 0 }
 
-abbrev pub foundStep : (tag start size : ℕ) → Step
-foundStep tag start size =
+abbrev pub foundEntry : (tag start size : ℕ) → EntryReading
+foundEntry tag start size =
     record { status = 0; offset = bytePos 0; entry = record { tag = tag; payload = range start size }; next = bytePos (start + size) }
 
-abbrev pub stepAnswer : Outcome (Decoded ℕ EntryHead) → Step
-stepAnswer (ok x) = foundStep (x .value .tag) (x .next) (x .value .size)
-stepAnswer (error s o) = refusedStep s o
+abbrev pub entryHeadAnswer : Outcome (Decoded ℕ EntryHead) → EntryReading
+entryHeadAnswer (ok x) = foundEntry (x .value .tag) (x .next) (x .value .size)
+entryHeadAnswer (error s o) = refusedEntry s o
 
 -- the entry at p of a region; one that is longer than a file may be is 1 at 0. Past the region's end it is as at the end: 2 at p
 unfoldable pub entryIn : List ℕ → (p : ℕ) → Outcome (Decoded ℕ EntryHead)

@@ -13,21 +13,21 @@ ghost use Prim.Native.Nat.{_+_, _≤_};
 ghost use lib.ListN.{length as count, take, drop};
 ghost use Rattle.bpg_format.specs.Limits.{maxFile};
 ghost use Rattle.bpg_read_entries.specs.Animations.{animationAnswer};
-ghost use Rattle.bpg_read_entries.specs.Entries.{entryStart, refusedStep, foundStep, stepAnswer, animationControl, entryIn};
+ghost use Rattle.bpg_read_entries.specs.Entries.{entryStart, refusedEntry, foundEntry, entryHeadAnswer, animationControl, entryIn};
 
 // Status 0, the entry, and the offset after it; or a refusal.
-pub struct Step {
+pub struct EntryReading {
     pub status: u8,
     pub offset: BytePos,
     pub entry: Entry,
     pub next: BytePos,
 }
 
-fn refused(status: u8, offset: BytePos) -> Step
-    ensures { λ r. ⌜ r ≡ refusedStep status (offset .0) ⌝ }
+fn refused(status: u8, offset: BytePos) -> EntryReading
+    ensures { λ r. ⌜ r ≡ refusedEntry status (offset .0) ⌝ }
 {
     let entry = zero_entry();
-    Step {
+    EntryReading {
         status,
         offset,
         entry,
@@ -35,11 +35,11 @@ fn refused(status: u8, offset: BytePos) -> Step
     }
 }
 
-fn found(tag: u32, start: BytePos, size: u32) -> Step
+fn found(tag: u32, start: BytePos, size: u32) -> EntryReading
     requires { ⌜ start .0 + size ≤ maxFile ⌝ }
-    ensures { λ r. ⌜ r ≡ foundStep tag (start .0) size ⌝ }
+    ensures { λ r. ⌜ r ≡ foundEntry tag (start .0) size ⌝ }
 {
-    Step {
+    EntryReading {
         status: 0,
         offset: BytePos(0),
         entry: Entry {
@@ -54,10 +54,10 @@ fn found(tag: u32, start: BytePos, size: u32) -> Step
 }
 
 // The entry at `at`. What tag 5 adds is left to `control`: an answer that held it would be copied for each entry.
-pub(crate) fn read(region: &[u8], at: BytePos) -> Step
+pub(crate) fn read(region: &[u8], at: BytePos) -> EntryReading
     requires { ⌜ count (now region) ≤ maxFile ⌝ }
     requires { ⌜ at .0 ≤ count (now region) ⌝ }
-    ensures { λ r. ⌜ r ≡ stepAnswer (entryStart (at .0) (drop (at .0) (now (region .entry)))) ⌝ }
+    ensures { λ r. ⌜ r ≡ entryHeadAnswer (entryStart (at .0) (drop (at .0) (now (region .entry)))) ⌝ }
 {
     match ue7::read(region, at, 32) {
         Number::Refused(status, offset) => refused(status, offset),
@@ -74,7 +74,7 @@ pub(crate) fn read(region: &[u8], at: BytePos) -> Step
 }
 
 // The loop numbers of an entry with tag 5, found at `at`; `seen`: another stands before it.
-pub(crate) fn control(region: &[u8], at: BytePos, seen: bool, step: Step) -> Animation
+pub(crate) fn control(region: &[u8], at: BytePos, seen: bool, step: EntryReading) -> Animation
     requires { ⌜ step .next .0 ≤ count (now region) ⌝ }
     ensures { λ r. ⌜ r ≡ animationAnswer (animationControl seen (at .0) (step .entry .payload .start) (drop (step .entry .payload .start) (take (step .next .0) (now (region .entry))))) ⌝ }
 {
@@ -86,8 +86,8 @@ pub(crate) fn control(region: &[u8], at: BytePos, seen: bool, step: Step) -> Ani
 }
 
 // The entry at `at`, for any region and offset: a region longer than a file is refused, and an offset past the region.
-pub fn read_checked(region: &[u8], at: BytePos) -> Step
-    ensures { λ r. ⌜ r ≡ stepAnswer (entryIn (now (region .entry)) (at .0)) ⌝ }
+pub fn read_checked(region: &[u8], at: BytePos) -> EntryReading
+    ensures { λ r. ⌜ r ≡ entryHeadAnswer (entryIn (now (region .entry)) (at .0)) ⌝ }
 {
     if MAX_FILE < region.len() {
         return refused(1, BytePos(0));

@@ -112,7 +112,7 @@ pub(crate) fn read_pcm(region: &[u8], at: BitPos) -> Pcm
     }
 }
 
-// The PCM fields where they are there, and zeros where they are not.
+// The PCM fields, or zeros if they are absent.
 pub(crate) fn read_optional_pcm(region: &[u8], at: BitPos, present: bool) -> Pcm
     ensures { λ r. ⌜ ((i : ℕ) → pcmOutcome i r ≡ decodeAt (regionBits (now (region .entry))) (optional present pcmFields noPcm) i (at .0)) ⌝ }
 {
@@ -134,7 +134,7 @@ pub(crate) fn read_sps(region: &[u8], at: BitPos) -> Sps
     }
 }
 
-// The SPS extension where it is there, and zeros where it is not.
+// The SPS extension, or zeros if it is absent.
 pub(crate) fn read_optional_sps(region: &[u8], at: BitPos, present: bool) -> Sps
     ensures { λ r. ⌜ ((i : ℕ) → spsOutcome i r ≡ decodeAt (regionBits (now (region .entry))) (optional present spsFields noSps) i (at .0)) ⌝ }
 {

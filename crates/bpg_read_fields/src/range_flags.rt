@@ -14,7 +14,7 @@ ghost use Rattle.bpg_bits.specs.BitNumbers.{regionBits};
 ghost use Rattle.bpg_format.specs.FileCodec.{optional};
 ghost use Rattle.bpg_read_fields.specs.Fields.{nineOutcome, withFlags};
 
-// The flags as a number of nine bits where they are there, and 0 where they are not.
+// The flags as a number of nine bits, or 0 if they are absent.
 pub(crate) fn read(region: &[u8], at: BitPos, present: bool) -> BitNumber
     ensures { λ r. ⌜ ((i : ℕ) → nineOutcome i r ≡ decodeAt (regionBits (now (region .entry))) (optional present (fixed Bit 9 15 atItem) (replicate 9 false)) i (at .0)) ⌝ }
 {

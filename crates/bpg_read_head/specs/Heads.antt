@@ -44,7 +44,7 @@ headAnswer (error s o) = refusedHead s o
 
 -- ---- the steps of `readHead` that functions of their own take
 
--- the extension length, where the flag says that it is there
+-- the extension length, or 0 without the extension flag
 abbrev pub readExtensionLength : (present : Bool) (p : ℕ) → List ℕ → Outcome (Decoded ℕ ℕ)
 readExtensionLength present = ifPresent present 0 (ue7Decode 32)
 

@@ -30,7 +30,7 @@ fn refused(status: u8, offset: BytePos) -> HeadersReading
     }
 }
 
-// The alpha plane's header where it is there, and zeros where it is not.
+// The alpha plane's header, or zeros if the file has none.
 fn alpha_header(file: &[u8], at: BytePos, present: bool, depth: u8) -> HeaderReading
     ensures { λ r. ⌜ r ≡ headerAnswer (alphaIn (now (file .entry)) present depth (at .0)) ⌝ }
 {

@@ -29,6 +29,7 @@ use Rattle.bpg_reader.proofs.BodyChain.{headersOf, fromData, fromHeader
 
 -- ---- the block
 
+-- it was read, and these are its entries
 pub record BlockRead (file : List ℕ) (h : Head) (b : Block) : Type 0 where
   pub head : HeadRead file h
   pub entries : List Extension
@@ -67,7 +68,8 @@ module _ {file : List ℕ} {h : Head} (k : HeadRead file h) where
 
 -- ---- 14, then 10
 
-pub record Judged (file : List ℕ) (h : Head) (b : Block) : Type 0 where
+-- neither refuses the file
+pub record AtHeaders (file : List ℕ) (h : Head) (b : Block) : Type 0 where
   pub block : BlockRead file h b
   pub left : readBody h (drop (h .end) file) ≡ fromHeaders file h (block .entries)
 
@@ -83,17 +85,18 @@ module _ {file : List ℕ} {h : Head} {b : Block} (k : BlockRead file h b) where
         → refusedReading 10 (h .dataLengthAt) ≡ answerOf (readBody h (drop (h .end) file))
     length-misses a = rw (k .left, animated, control, a)
 
-    pub judged : countsToEnd (h .dataLength) (length file - headersStart h) ≡ true → Judged file h b
-    judged a = record { block = k; left = k .left ∙ rw (animated, control, a) }
+    pub at-headers : countsToEnd (h .dataLength) (length file - headersStart h) ≡ true → AtHeaders file h b
+    at-headers a = record { block = k; left = k .left ∙ rw (animated, control, a) }
 
 -- ---- the headers
 
+-- they were read, and the data follows them
 pub record HeadersRead (file : List ℕ) (h : Head) (b : Block) (x : HeadersReading) : Type 0 where
   pub block : BlockRead file h b
   pub inside : x .next .0 ≤ length file
   pub left : readBody h (drop (h .end) file) ≡ fromData file h (block .entries) (x .alpha) (x .color) (x .next .0)
 
-module _ {file : List ℕ} {h : Head} {b : Block} (k : Judged file h b) (x : HeadersReading) (e : x ≡ headersAnswer (headersOf file h)) where
+module _ {file : List ℕ} {h : Head} {b : Block} (k : AtHeaders file h b) (x : HeadersReading) (e : x ≡ headersAnswer (headersOf file h)) where
   pub headers-refused : x .status ≢ 0 → refusedReading (x .status) (x .offset .0) ≡ answerOf (readBody h (drop (h .end) file))
   headers-refused n = refused-error headersAnswer (λ r. r .status) (λ _. refl) (λ _ _. refl) (headersOf file h) x e n λ s o w. rw (k .left, e, w)
 
@@ -106,6 +109,7 @@ module _ {file : List ℕ} {h : Head} {b : Block} (k : Judged file h b) (x : Hea
 
 -- ---- 26
 
+-- the data is allowed, and so the whole body was read
 pub record BodyRead (file : List ℕ) (h : Head) (b : Block) (x : HeadersReading) : Type 0 where
   pub block : BlockRead file h b
   pub inside : x .next .0 ≤ length file

@@ -19,8 +19,6 @@ ghost use Rattle.bpg_read_entries.specs.Blocks.{blockAnswer};
 ghost use Rattle.bpg_reader.specs.Bodies.{headFields, HeadRead};
 
 // The entries of the extension block. Without the extension flag its length is 0.
-// `block::read` is called in two places: called in one, it would be compiled into this function and those that call it, whose
-// many values leave its loop no registers.
 fn entries(file: &[u8], head: Head) -> Block
     requires { ⌜ HeadRead (now file) (headFields head) ⌝ }
     ensures { λ r. ⌜ r ≡ blockAnswer (head .end .0) (readBlock (headFields head) (drop (head .end .0) (now (file .entry)))) ⌝ }
@@ -33,9 +31,6 @@ fn entries(file: &[u8], head: Head) -> Block
         return block::none();
     }
     let end = head.end.0 + length;
-    if head.flags.animation_flag {
-        return block::read(&file[0..end], head.end);
-    }
     block::read(&file[0..end], head.end)
 }
 

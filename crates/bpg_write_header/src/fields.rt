@@ -49,7 +49,7 @@ pub(crate) fn add_pcm(b: BitBuffer, h: Header) -> BitBuffer
     add_flag(diff, h.pcm_loop_filter_disabled_flag)
 }
 
-// The SPS extension's flag and seven bits, where the extension is there.
+// The SPS extension's flag and seven bits, if the extension is present.
 pub(crate) fn add_sps(b: BitBuffer, h: Header) -> BitBuffer
     ensures { λ r. ⌜ Added b (select (h .«sps_extension_present_flag») (spsExtensionBits h) []) r ⌝ }
 {

@@ -18,7 +18,7 @@ fn add_all(b: BitBuffer, h: Header) -> BitBuffer
     all
 }
 
-// The flags, where the SPS extension says that they are there.
+// The flags, if the SPS extension says that they are present.
 pub(crate) fn add(b: BitBuffer, h: Header) -> BitBuffer
     ensures { λ r. ⌜ Added b (select (h .«sps_range_extension_flag») (h .«range_flags») []) r ⌝ }
 {

@@ -30,5 +30,5 @@ entries-next es k h =
 pub measured : (r : Record) (a c block ext ha hc dl w h d : ℕ) (alpha : Bool) → block ≡ entriesSize (usedEntries r)
     → ext ≡ extensionSize (r .«extension_present_flag») block → alpha ≡ (r .«alpha1_flag» || r .«alpha2_flag») → ha ≡ headerSize alpha a → hc ≡ headerSize true c
     → dl ≡ select (r .«explicit_length») (ha + hc + r .«data» .length) 0 → w ≡ sizeOf (r .«picture_width») → h ≡ sizeOf (r .«picture_height») → d ≡ sizeOf dl
-    → record { block = block; body = ha + hc + r .«data» .length; total = 6 + (w + h + d) + ext + (ha + hc + r .«data» .length) } ≡ layoutOf r a c
+    → record { block = block; «headers_and_data» = ha + hc + r .«data» .length; total = 6 + (w + h + d) + ext + (ha + hc + r .«data» .length) } ≡ layoutOf r a c
 measured r a c block ext ha hc dl w h d alpha e1 e2 e3 e4 e5 e6 e7 e8 e9 = rw (e9, e6, e8, e7, e2, e1, e4, e5, e3)

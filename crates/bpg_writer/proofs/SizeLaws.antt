@@ -20,8 +20,8 @@ use Rattle.bpg_format.specs.Zero.{zeroHeader}
 use Rattle.bpg_format.specs.Rules.{HevcRules}
 use Rattle.bpg_format.specs.Syntax.{blockBytes, extensionBytes, extensionPart, headerBits, headerBytes, headersAndData, dataLength, fileOf}
 use Rattle.bpg_format.specs.Records.{bytesIn, extensionOf, usedEntries, contentOf}
-use Rattle.bpg_writer.specs.Layouts.{entriesSize, extensionSize, headerSize, bodySize, layoutOf}
-use Rattle.bpg_writer.specs.Parts.{Encoded, RangeInside, headPart, entriesPart, blockPart, headerPart, bodyPart, filePart}
+use Rattle.bpg_writer.specs.Layouts.{entriesSize, extensionSize, headerSize, headersAndDataSize, layoutOf}
+use Rattle.bpg_writer.specs.FileParts.{Encoded, RangeInside, headPart, entriesPart, blockPart, headerPart, headersAndDataPart, filePart}
 use Rattle.bpg_writer.proofs.PartLaws.{range-length}
 use Rattle.bpg_writer.proofs.JudgedLaws.{Judged}
 
@@ -45,7 +45,7 @@ entries-measured source (e ∷ es) a =
 
 -- ---- a header's bits in a buffer
 
--- parts that are alike where they are there
+-- parts that are alike if they are present
 select-where : (t : Bool) (l m : List ℕ) → (t ≡ true → l ≡ m) → select t l [] ≡ select t m []
 unfolding select
 select-where true l m e = e refl
@@ -100,15 +100,15 @@ module _ (r : Record) (source : List ℕ) (j : Judged r source) (a c : BitBuffer
   abbrev colorBytes : List ℕ
   colorBytes = headerBytes (getD (r .headers) 1 zeroHeader)
 
-  body-part : bodyPart alpha a c source (r .«data») ≡ headersAndData (contentOf r source)
+  headers-and-data-part : headersAndDataPart alpha a c source (r .«data») ≡ headersAndData (contentOf r source)
   unfolding headersAndData contentOf select
-  body-part =
+  headers-and-data-part =
       ap₂ (λ (x y : List ℕ). x ++ (y ++ bytesIn source (r .«data»))) (header-part depth alpha (getD (r .headers) 0 zeroHeader) a (j .alpha-rules) ea)
       (header-part depth true (getD (r .headers) 1 zeroHeader) c (λ _. j .color-rules) ec)
 
-  pub body-measured : bodySize r (a .len .0) (c .len .0) ≡ length (headersAndData (contentOf r source))
+  pub headers-and-data-measured : headersAndDataSize r (a .len .0) (c .len .0) ≡ length (headersAndData (contentOf r source))
   unfolding headersAndData contentOf select
-  body-measured =
+  headers-and-data-measured =
       let d = bytesIn source (r .«data») in
       omega (
         arith,
@@ -120,20 +120,20 @@ module _ (r : Record) (source : List ℕ) (j : Judged r source) (a c : BitBuffer
       )
 
   abbrev size : ℕ
-  size = bodySize r (a .len .0) (c .len .0)
+  size = headersAndDataSize r (a .len .0) (c .len .0)
 
   -- the parts are the file
   pub file-is : filePart r source size a c ≡ fileOf (contentOf r source)
   unfolding fileOf dataLength extensionPart contentOf
   file-is =
-      ap₂ (λ (n : ℕ) (l : List ℕ). headPart r (select (r .«explicit_length») n 0) ++ (blockPart r source ++ l)) body-measured body-part ∙ simp append-assoc
+      ap₂ (λ (n : ℕ) (l : List ℕ). headPart r (select (r .«explicit_length») n 0) ++ (blockPart r source ++ l)) headers-and-data-measured headers-and-data-part ∙ simp append-assoc
 
   pub total-measured : layoutOf r (a .len .0) (c .len .0) .total ≡ length (fileOf (contentOf r source))
   total-measured =
       let n = select (r .«explicit_length») size 0 in
       let w = ue7Bytes (r .«picture_width») in
       let h = ue7Bytes (r .«picture_height») in
-      let d = bodyPart alpha a c source (r .«data») in
+      let d = headersAndDataPart alpha a c source (r .«data») in
       omega (
         arith,
         sym (ap length file-is),
@@ -141,15 +141,15 @@ module _ (r : Record) (source : List ℕ) (j : Judged r source) (a c : BitBuffer
         length-append (blockPart r source) d,
         length-append w (h ++ ue7Bytes n),
         length-append h (ue7Bytes n),
-        ap length body-part,
-        body-measured,
+        ap length headers-and-data-part,
+        headers-and-data-measured,
         extension-measured (r .«extension_present_flag») (entriesPart r source) (entriesSize (usedEntries r)) (entries-measured source (usedEntries r) (j .payloads)),
       )
 
   pub block-inside : entriesSize (usedEntries r) ≤ length (fileOf (contentOf r source))
   block-inside =
       let n = select (r .«explicit_length») size 0 in
-      let d = bodyPart alpha a c source (r .«data») in
+      let d = headersAndDataPart alpha a c source (r .«data») in
       omega (
         arith,
         sym (ap length file-is),

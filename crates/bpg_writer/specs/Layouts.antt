@@ -25,17 +25,17 @@ extensionSize present block = select present (sizeOf block + block) 0
 abbrev pub headerSize : (present : Bool) (bits : ℕ) → ℕ
 headerSize present n = select present (sizeOf (bytesFor n) + bytesFor n) 0
 
-abbrev pub bodySize : Record → (alpha color : ℕ) → ℕ
-bodySize r alpha color = headerSize (r .«alpha1_flag» || r .«alpha2_flag») alpha + headerSize true color + r .«data» .length
+abbrev pub headersAndDataSize : Record → (alpha color : ℕ) → ℕ
+headersAndDataSize r alpha color = headerSize (r .«alpha1_flag» || r .«alpha2_flag») alpha + headerSize true color + r .«data» .length
 
 abbrev pub layoutOf : Record → (alpha color : ℕ) → Layout
 layoutOf r alpha color =
     let block = entriesSize (usedEntries r) in
-    let body = bodySize r alpha color in
+    let rest = headersAndDataSize r alpha color in
     record {
       block = block;
-      body = body;
+      «headers_and_data» = rest;
       total =
-          6 + (sizeOf (r .«picture_width») + sizeOf (r .«picture_height») + sizeOf (select (r .«explicit_length») body 0))
-          + extensionSize (r .«extension_present_flag») block + body;
+          6 + (sizeOf (r .«picture_width») + sizeOf (r .«picture_height») + sizeOf (select (r .«explicit_length») rest 0))
+          + extensionSize (r .«extension_present_flag») block + rest;
     }

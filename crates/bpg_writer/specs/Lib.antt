@@ -1,3 +1,3 @@
 -- What the parts of the writer answer.
 pub mod Layouts
-pub mod Parts
+pub mod FileParts

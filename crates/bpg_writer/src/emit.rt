@@ -15,7 +15,7 @@ ghost use Rattle.bpg_format.specs.Limits.{maxEntries};
 ghost use Rattle.bpg_format.specs.Syntax.{byte4 as byteFour, byte5 as byteFive, extensionBytes};
 ghost use Rattle.bpg_codec.specs.Lawful.{All};
 ghost use Rattle.bpg_format.specs.Records.{extensionOf, usedEntries, recordFlags};
-ghost use Rattle.bpg_writer.specs.Parts.{headPart, RangeInside, entriesPart, blockPart, headerPart, bodyPart};
+ghost use Rattle.bpg_writer.specs.FileParts.{headPart, RangeInside, entriesPart, blockPart, headerPart, headersAndDataPart};
 
 fn bit(b: bool) -> u8
     ensures { λ r. ⌜ (r ≡ bitOf b) × (r < 2) ⌝ }
@@ -96,7 +96,7 @@ fn entries(out: &mut [u8], at: BytePos, record: Record, source: &[u8]) -> BytePo
     BytePos(next)
 }
 
-// The extension length and the block, where they are there.
+// With the extension flag, the extension length and the block.
 pub(crate) fn block(
     out: &mut [u8],
     at: BytePos,
@@ -118,7 +118,7 @@ pub(crate) fn block(
     entries(out, p, record, source)
 }
 
-// A header's length and its bits, where they are there.
+// A header's length and its bits; nothing if it is absent.
 fn header(out: &mut [u8], at: BytePos, present: bool, bits: BitBuffer) -> BytePos
     requires { ⌜ bits .len .0 ≤ 65 ⌝ }
     requires { ⌜ at .0 + count (headerPart present bits) ≤ count (now out) ⌝ }
@@ -134,7 +134,7 @@ fn header(out: &mut [u8], at: BytePos, present: bool, bits: BitBuffer) -> BytePo
 }
 
 // The headers and the data.
-pub(crate) fn body(
+pub(crate) fn headers_and_data(
     out: &mut [u8],
     at: BytePos,
     alpha_present: bool,
@@ -146,9 +146,9 @@ pub(crate) fn body(
     requires { ⌜ alpha .len .0 ≤ 65 ⌝ }
     requires { ⌜ color .len .0 ≤ 65 ⌝ }
     requires { ⌜ «data» .start + «data» .length ≤ count (now source) ⌝ }
-    requires { ⌜ at .0 + count (bodyPart «alpha_present» alpha color (now source) «data») ≤ count (now out) ⌝ }
-    ensures { λ r. ⌜ now (out .exit) ≡ written (now (out .entry)) (at .0) (bodyPart «alpha_present» alpha color (now (source .entry)) «data») ⌝ }
-    ensures { λ r. ⌜ r .0 ≡ writtenEnd (now (out .entry)) (at .0) (bodyPart «alpha_present» alpha color (now (source .entry)) «data») ⌝ }
+    requires { ⌜ at .0 + count (headersAndDataPart «alpha_present» alpha color (now source) «data») ≤ count (now out) ⌝ }
+    ensures { λ r. ⌜ now (out .exit) ≡ written (now (out .entry)) (at .0) (headersAndDataPart «alpha_present» alpha color (now (source .entry)) «data») ⌝ }
+    ensures { λ r. ⌜ r .0 ≡ writtenEnd (now (out .entry)) (at .0) (headersAndDataPart «alpha_present» alpha color (now (source .entry)) «data») ⌝ }
 {
     let p = header(out, at, alpha_present, alpha);
     let q = header(out, p, true, color);

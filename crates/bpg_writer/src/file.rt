@@ -20,9 +20,9 @@ ghost use Rattle.bpg_codec.specs.Buffer.{written};
 ghost use Rattle.bpg_format.specs.Limits.{maxEntries, maxFile};
 ghost use Rattle.bpg_format.specs.Records.{usedEntries};
 ghost use Rattle.bpg_format.specs.Write.{writeFile, writeBuffer, Writable};
-ghost use Rattle.bpg_writer.specs.Parts.{Encoded, RangeInside, entriesPart, filePart};
+ghost use Rattle.bpg_writer.specs.FileParts.{Encoded, RangeInside, entriesPart, filePart};
 
-// The bits of a header, where it is there: an absent header is never looked at again.
+// The bits of a header, if the file has it: an absent header is never looked at again.
 fn encoded(present: bool, header: Header) -> BitBuffer
     ensures { λ r. ⌜ r .len .0 ≤ 65 ⌝ }
     ensures { λ r. ⌜ Encoded present header r ⌝ }
@@ -51,16 +51,16 @@ fn emit_file(
     requires { ⌜ alpha .len .0 ≤ 65 ⌝ }
     requires { ⌜ color .len .0 ≤ 65 ⌝ }
     requires { ⌜ layout .block ≡ count (entriesPart «record» (now source)) ⌝ }
-    requires { ⌜ (layout .block ≤ maxFile) × (layout .body ≤ maxFile) ⌝ }
-    requires { ⌜ count (filePart «record» (now source) (layout .body) alpha color) ≤ count (now out) ⌝ }
-    ensures { λ _. ⌜ now (out .exit) ≡ written (now (out .entry)) 0 (filePart «record» (now (source .entry)) (layout .body) alpha color) ⌝ }
+    requires { ⌜ (layout .block ≤ maxFile) × (layout .«headers_and_data» ≤ maxFile) ⌝ }
+    requires { ⌜ count (filePart «record» (now source) (layout .«headers_and_data») alpha color) ≤ count (now out) ⌝ }
+    ensures { λ _. ⌜ now (out .exit) ≡ written (now (out .entry)) 0 (filePart «record» (now (source .entry)) (layout .«headers_and_data») alpha color) ⌝ }
 {
-    let data_length = layout::data_length(record.explicit_length, layout.body);
+    let data_length = layout::data_length(record.explicit_length, layout.headers_and_data);
     let p = emit::head(out, record, data_length as u32);
     let q = emit::block(out, p, record, source, layout.block as u32);
     let plane = has_alpha(record.alpha1_flag, record.alpha2_flag);
     let data = record.data;
-    emit::body(out, q, plane, alpha, color, source, data);
+    emit::headers_and_data(out, q, plane, alpha, color, source, data);
 }
 
 // Writes the file of a record, whose ranges are in `source`, from the start of `out`; a refusal leaves `out` as it is.

@@ -12,7 +12,7 @@ ghost use Rattle.bpg_writer.specs.Layouts.{entriesSize, extensionSize, h
 // The extension block, the headers with the data, and the whole file.
 pub(crate) struct Layout {
     pub block: u64,
-    pub body: u64,
+    pub headers_and_data: u64,
     pub total: u64,
 }
 
@@ -35,7 +35,7 @@ fn block_size(record: Record) -> u64
     size
 }
 
-// The extension length and the block, where they are there.
+// The extension length and the block; 0 without the extension flag.
 fn extension_size(present: bool, block: u64) -> u64
     requires { ⌜ block < 2 ^ 48 ⌝ }
     ensures { λ r. ⌜ r ≡ extensionSize present block ⌝ }
@@ -47,7 +47,7 @@ fn extension_size(present: bool, block: u64) -> u64
     0
 }
 
-// A header of so many bits, with its length, where it is there.
+// A header of so many bits, with its length; 0 if it is absent.
 fn header_size(present: bool, bits: usize) -> u64
     requires { ⌜ bits ≤ 65 ⌝ }
     ensures { λ r. ⌜ r ≡ headerSize present bits ⌝ }
@@ -61,11 +61,11 @@ fn header_size(present: bool, bits: usize) -> u64
 }
 
 // The data length as it is coded: 0 for "to the end of the file".
-pub(crate) fn data_length(explicit: bool, body: u64) -> u64
-    ensures { λ r. ⌜ r ≡ select explicit body 0 ⌝ }
+pub(crate) fn data_length(explicit: bool, headers_and_data: u64) -> u64
+    ensures { λ r. ⌜ r ≡ select explicit «headers_and_data» 0 ⌝ }
 {
     if explicit {
-        return body;
+        return headers_and_data;
     }
     0
 }
@@ -81,13 +81,13 @@ pub(crate) fn measure(record: Record, alpha_bits: usize, color_bits: usize) -> L
     let extension = extension_size(record.extension_present_flag, block);
     let alpha = has_alpha(record.alpha1_flag, record.alpha2_flag);
     let headers = header_size(alpha, alpha_bits) + header_size(true, color_bits);
-    let body = headers + record.data.length as u64;
+    let headers_and_data = headers + record.data.length as u64;
     let size = ue7::size(record.picture_width as u64)
         + ue7::size(record.picture_height as u64)
-        + ue7::size(data_length(record.explicit_length, body));
+        + ue7::size(data_length(record.explicit_length, headers_and_data));
     Layout {
         block,
-        body,
-        total: 6 + size as u64 + extension + body,
+        headers_and_data,
+        total: 6 + size as u64 + extension + headers_and_data,
     }
 }

@@ -8,7 +8,16 @@ returns : tie.Need-returns
 unfolding bigEndian
 returns c =
     let h = c .before .before .before .before in
-    rw (h .before .before .before .byte .ensures, h .before .before .byte2 .ensures, h .before .byte3 .ensures, h .byte4 .ensures, c .before .before .before .byte5 .ensures, c .before .before .byte6 .ensures, c .before .byte7 .ensures, c .byte8 .ensures)
+    rw (
+      h .before .before .before .byte .ensures,
+      h .before .before .byte2 .ensures,
+      h .before .byte3 .ensures,
+      h .byte4 .ensures,
+      c .before .before .before .byte5 .ensures,
+      c .before .before .byte6 .ensures,
+      c .before .byte7 .ensures,
+      c .byte8 .ensures,
+    )
 
 pub big-endian-spec : {M : Type 1} → statement M
 big-endian-spec =

@@ -7,8 +7,8 @@ use native.Mathlib.Omega.{arith}
 use borrow.Author.Needs.{needs}
 use Rattle.bpg_codec.specs.Outcome.{error}
 use Rattle.bpg_codec.proofs.Answers.{refused-error, accepted-value}
-use Rattle.bpg_read_entries.specs.declared.entry.Step.{Step as Read}
-use Rattle.bpg_read_entries.specs.Entries.{stepAnswer, entryIn}
+use Rattle.bpg_read_entries.specs.declared.entry.EntryReading.{EntryReading}
+use Rattle.bpg_read_entries.specs.Entries.{entryHeadAnswer, entryIn}
 use Rattle.bpg_read_entries.proofs.CheckedEntry.{entry-refuses}
 use Rattle.bpg_reader.specs.declared.parts.EntryAt.{EntryAt}
 use Rattle.bpg_cursor.specs.declared.step.Step.{Step}
@@ -17,18 +17,18 @@ use Rattle.bpg_cursor.proofs.step.step_at.Statement.{statement}
 use Rattle.bpg_cursor.proofs.step.step_at.Tie as tie
 
 -- the step of an entry that was read
-abbrev found : Read → Step
+abbrev found : EntryReading → Step
 found t = record { answer = EntryAt.Found (t .entry); next = t .next }
 
-module _ (region : List ℕ) (p : ℕ) (t : Read) (e : t ≡ stepAnswer (entryIn region p)) where
+module _ (region : List ℕ) (p : ℕ) (t : EntryReading) (e : t ≡ entryHeadAnswer (entryIn region p)) where
   step-absent : t .status ≢ 0 → stepOf p (error 0 0) ≡ stepAt region p
-  step-absent n = refused-error stepAnswer (λ x. x .status) (λ _. refl) (λ _ _. refl) (entryIn region p) t e n λ s o w. rw w
+  step-absent n = refused-error entryHeadAnswer (λ x. x .status) (λ _. refl) (λ _ _. refl) (entryIn region p) t e n λ s o w. rw w
 
   step-found : t .status ≡ 0 → found t ≡ stepAt region p
   step-found z =
-      accepted-value stepAnswer (λ x. x .status) (λ _. refl) (λ _ _. refl) (entryIn region p) t e z
+      accepted-value entryHeadAnswer (λ x. x .status) (λ _. refl) (λ _ _. refl) (entryIn region p) t e z
       (λ s o w k. omega (arith, entry-refuses region p s o w)) λ x w.
-      ap found (e ∙ ap stepAnswer w) ∙ ap (stepOf p) (sym w)
+      ap found (e ∙ ap entryHeadAnswer w) ∙ ap (stepOf p) (sym w)
 
 returns : tie.Need-returns
 returns c = let r = c .before .before in step-absent _ _ (r .read-checked .result) (r .read-checked .ensures) (c .if1 .taken)

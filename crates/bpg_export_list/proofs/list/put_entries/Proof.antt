@@ -47,7 +47,9 @@ loop-again c =
     let w = c .before .before in
     let t = w .before .before .before .before .before .before .before in
     let s = t .before .before .before .before in
-    (omega (arith, t .loop-test .taken), entry-written (out s) (es s) (whole s) (s .pre) (t .before .loop .k) _ (t .before .loop .out) _ (t .loop-test .taken) (t .before .loop .inv .1) (w .put .ensures))
+    let l = t .before .loop in
+    let written = entry-written (out s) (es s) (whole s) (s .pre) (l .k) _ (l .out) _ (t .loop-test .taken) (l .inv .1) (w .put .ensures) in
+    (omega (arith, t .loop-test .taken), written)
 
 same-length : tie.Need-same-length Inv-loop μ-loop
 same-length c =

@@ -16,7 +16,7 @@ use Rattle.bpg_format.specs.Content.{Extension}
 use Rattle.bpg_format.specs.Rules.{noAnimation}
 use Rattle.bpg_format.specs.Read.{readEntry, readEntries}
 use Rattle.bpg_read_entries.specs.declared.animation.Animation.{Animation}
-use Rattle.bpg_read_entries.specs.declared.entry.Step.{Step}
+use Rattle.bpg_read_entries.specs.declared.entry.EntryReading.{EntryReading}
 use Rattle.bpg_read_entries.specs.declared.block.Block.{Block}
 use Rattle.bpg_read_entries.specs.Animations.{foundAnimation}
 use Rattle.bpg_read_entries.specs.Blocks.{refusedBlock, blockAnswer, entriesIn}
@@ -79,7 +79,7 @@ module _ (c : tie.After-read Inv-loop μ-loop) where
   abbrev turn : tie.At-loop Inv-loop μ-loop
   turn = c .before .before .before
 
-  abbrev step : Step
+  abbrev step : EntryReading
   step = c .read .result
 
   abbrev entry : Outcome (Decoded ℕ Extension)

@@ -2,19 +2,19 @@
 use mathlib.Core.Path.{sym, ap, _∙_}
 use native.Mathlib.Omega.{arith}
 use borrow.Author.Needs.{needs}
-use Rattle.bpg_read_entries.specs.Entries.{stepAnswer}
+use Rattle.bpg_read_entries.specs.Entries.{entryHeadAnswer}
 use Rattle.bpg_read_entries.proofs.CheckedEntry.{too-long, in-region, past-end}
 use Rattle.bpg_read_entries.proofs.entry.read_checked.Statement.{statement}
 use Rattle.bpg_read_entries.proofs.entry.read_checked.Tie as tie
 
 returns : tie.Need-returns
-returns c = c .refused .ensures ∙ ap stepAnswer (sym (too-long _ _ (c .before .if1 .taken)))
+returns c = c .refused .ensures ∙ ap entryHeadAnswer (sym (too-long _ _ (c .before .if1 .taken)))
 
 returns-2 : tie.Need-returns-2
-returns-2 c = c .refused2 .ensures ∙ ap stepAnswer (sym (past-end _ _ (c .before .before .before .if1 .left) (omega (arith, c .before .if2 .taken))))
+returns-2 c = c .refused2 .ensures ∙ ap entryHeadAnswer (sym (past-end _ _ (c .before .before .before .if1 .left) (omega (arith, c .before .if2 .taken))))
 
 returns-3 : tie.Need-returns-3
-returns-3 c = c .read .ensures ∙ ap stepAnswer (sym (in-region _ _ (c .before .before .before .if1 .left)))
+returns-3 c = c .read .ensures ∙ ap entryHeadAnswer (sym (in-region _ _ (c .before .before .before .if1 .left)))
 
 pub read-checked-spec : {M : Type 1} → statement M
 read-checked-spec =

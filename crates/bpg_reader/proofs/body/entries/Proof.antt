@@ -13,13 +13,8 @@ returns-2 c = c .none .ensures ∙ block-empty (c .before .before .before .befor
 
 returns-3 : tie.Need-returns-3
 returns-3 c =
-    let e = c .before .before .before .before .before in
+    let e = c .before .before .before .before in
     c .read .ensures ∙ block-region (e .before .before .before .before .pre) (e .if1 .left)
-
-returns-4 : tie.Need-returns-4
-returns-4 c =
-    let e = c .before .before .before .before .before in
-    c .read2 .ensures ∙ block-region (e .before .before .before .before .pre) (e .if1 .left)
 
 pub entries-spec : {M : Type 1} → statement M
 entries-spec =
@@ -36,9 +31,4 @@ entries-spec =
     (λ c. search needs)
     (λ c. search needs)
     (λ c κs. search needs)
-    returns-3
-    (λ c. search needs)
-    (λ c. search needs)
-    (λ c. search needs)
-    (λ c κs. search needs)
-    returns-4)
+    returns-3)

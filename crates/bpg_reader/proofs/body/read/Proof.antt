@@ -13,7 +13,7 @@ use Rattle.bpg_read_entries.specs.declared.block.Block.{Block}
 use Rattle.bpg_read_headers.specs.BothHeaders.{headersAnswer, headersIn}
 use Rattle.bpg_reader.specs.Bodies.{headFields, headersStart}
 use Rattle.bpg_reader.proofs.BodyChain.{headersOf}
-use Rattle.bpg_reader.proofs.BodyLaws.{BlockRead, block-refused, block-read, no-control, length-misses, Judged, judged, HeadersRead, headers-refused, headers-read}
+use Rattle.bpg_reader.proofs.BodyLaws.{BlockRead, block-refused, block-read, no-control, length-misses, AtHeaders, at-headers, HeadersRead, headers-refused, headers-read}
 use Rattle.bpg_reader.proofs.BodyLaws.{to-end, BodyRead, data-refused, data-read}
 use Rattle.bpg_reader.proofs.BodyRecord.{min-cb-small, body-read}
 use borrow.Author.Needs.{needs}
@@ -46,9 +46,9 @@ module _ (c : tie.Else3) where
   abbrev checked : tie.Else2
   checked = c .before .before .before .before
 
-  after-length : let e = entered checked in Judged (file e) (head e) (block e)
+  after-length : let e = entered checked in AtHeaders (file e) (head e) (block e)
   after-length =
-      judged (after-block (checked .before .before)) (controlled checked) (sym (c .before .reaches-end .ensures) ∙ not-false _ (c .if3 .left))
+      at-headers (after-block (checked .before .before)) (controlled checked) (sym (c .before .reaches-end .ensures) ∙ not-false _ (c .if3 .left))
 
 module _ (c : tie.After-read) where
   abbrev counted : tie.Else3

@@ -105,7 +105,9 @@ returns-6 c =
     ap numberAnswer (done _ _ _ _ _ (l .loop .inv .1) (omega arith) (omega (arith, some (l .before .before .before))) (omega arith))
 
 loop-again : tie.Need-loop-again Inv-loop μ-loop
-loop-again c = (omega arith, more _ _ _ _ _ (c .before .before .before .before .loop .inv .1) (omega arith) (omega (arith, some (c .before .before .before .before .before .before .before))) (omega arith))
+loop-again c =
+    let l = c .before .before .before .before in
+    (omega arith, more _ _ _ _ _ (l .loop .inv .1) (omega arith) (omega (arith, some (l .before .before .before))) (omega arith))
 
 returns-7 : tie.Need-returns-7 Inv-loop μ-loop
 returns-7 c = ap numberAnswer (cut _ _ _ _ _ (c .before .loop .inv .1) (omega arith))

@@ -6,12 +6,11 @@ use native.Mathlib.Omega.{arith}
 use lib.ListN.{length, take, getD, length-append}
 use borrow.Author.Needs.{needs}
 use Rattle.bpg_format.specs.Limits.{maxEntries}
-use Rattle.bpg_format.specs.declared.record.Entry.{Entry}
 use Rattle.bpg_format.specs.Zero.{zeroEntry}
 use Rattle.bpg_format.specs.Syntax.{extensionBytes, blockBytes}
 use Rattle.bpg_format.specs.Records.{extensionOf}
 use Rattle.bpg_format.proofs.Typed.{entries-count}
-use Rattle.bpg_writer.specs.Parts.{RangeInside}
+use Rattle.bpg_writer.specs.FileParts.{RangeInside}
 use Rattle.bpg_writer.proofs.PutLaws.{Put, put-end, put-none, put-then, put-same}
 use Rattle.bpg_writer.proofs.PartLaws.{bytes-next, bytes-grow, nth-used}
 use Rattle.bpg_writer.proofs.emit.entries.Statement.{statement}
@@ -51,7 +50,7 @@ module _ (c : tie.In-loop Inv-loop μ-loop) where
   more = bytes-next (start .args .source .now) (start .args .«record» .entries) k inside
 
   so-far : (c .before .loop .next ≡ start .args .at .0 + length (first start k)) × (length (c .before .loop .out) ≡ length (start .args .out .now))
-  so-far = put-end (start .args .out .now) (start .args .at .0) (first start k) _ _ (fits start k (c .before .loop .inv .0)) (c .before .loop .inv .1)
+  so-far = put-end (start .args .out .now) (start .args .at .0) (first start k) (fits start k (c .before .loop .inv .0)) (c .before .loop .inv .1)
 
   fits-more : start .args .at .0 + length (first start k ++ extensionBytes (extensionOf (start .args .source .now) (getD (start .args .«record» .entries) k zeroEntry)))
       ≤ length (start .args .out .now)
@@ -80,20 +79,20 @@ loop-again c =
     let l = e .before .before .before in
     let s = start l in (
       omega (arith, l .loop-test .taken),
-      put-same (s .args .out .now) (s .args .at .0) _ _ _ _ (sym (more l))
-          (put-then (s .args .out .now) (s .args .at .0) (first s (k l)) _ _ _ _ _ (fits-more l) (l .before .loop .inv .1) (e .entry .ensures)),
+      put-same (s .args .out .now) (s .args .at .0) (sym (more l))
+          (put-then (s .args .out .now) (s .args .at .0) (first s (k l)) _ (fits-more l) (l .before .loop .inv .1) λ _. e .entry .ensures),
     )
 
 same-length : tie.Need-same-length Inv-loop μ-loop
 same-length c =
     let s = c .before .before .before .before .before .before in
-    put-end (s .args .out .now) (s .args .at .0) (first s (c .before .loop .k)) _ _ (fits s (c .before .loop .k) (c .before .loop .inv .0)) (c .before .loop .inv .1) .1
+    put-end (s .args .out .now) (s .args .at .0) (first s (c .before .loop .k)) (fits s (c .before .loop .k) (c .before .loop .inv .0)) (c .before .loop .inv .1) .1
 
 returns : tie.Need-returns Inv-loop μ-loop
 returns c =
     let s = c .before .before .before .before .before .before in
     let e : c .before .loop .k ≡ s .args .«record» .«entry_count» = omega (arith, c .loop-test .left, c .before .loop .inv .0) in
-    put-same (s .args .out .now) (s .args .at .0) _ _ _ _ (ap (first s) e) (c .before .loop .inv .1)
+    put-same (s .args .out .now) (s .args .at .0) (ap (first s) e) (c .before .loop .inv .1)
 
 pub entries-spec : {M : Type 1} → statement M
 entries-spec =

@@ -27,9 +27,9 @@ returns-2 c =
     let s = e .before .before in
     let n = bytesFor (s .args .bits .len .0) in
     let l = ue7Bytes n ++ bufferBytes (s .args .bits) in
-    put-present (s .args .out .now) (s .args .at .0) _ l _ _ (not-false _ (e .if1 .left))
-    (put-then (s .args .out .now) (s .args .at .0) (ue7Bytes n) (bufferBytes (s .args .bits)) _ _ _ _
-    (omega (arith, s .pre .1, ap length (select-true {X = List ℕ} {b = s .args .present} l [] (not-false _ (e .if1 .left))))) (w1 .write .ensures) (w2 .write2 .ensures))
+    let is = ap length (select-true {X = List ℕ} {b = s .args .present} l [] (not-false _ (e .if1 .left))) in
+    put-present (s .args .out .now) (s .args .at .0) l (not-false _ (e .if1 .left))
+    (put-then (s .args .out .now) (s .args .at .0) (ue7Bytes n) (bufferBytes (s .args .bits)) (omega (arith, s .pre .1, is)) (w1 .write .ensures) λ _. w2 .write2 .ensures)
 
 pub header-spec : {M : Type 1} → statement M
 header-spec =

@@ -7,8 +7,8 @@ use native.Mathlib.Omega.{arith}
 use lib.ListN.{length, length-append}
 use Rattle.bpg_codec.specs.Select.{select}
 use Rattle.bpg_format.specs.Limits.{maxFile}
-use Rattle.bpg_writer.specs.Parts.{headPart, blockPart, bodyPart}
-use Rattle.bpg_writer.proofs.PutLaws.{Put, put-end, put-same, put-three}
+use Rattle.bpg_writer.specs.FileParts.{headPart, blockPart, headersAndDataPart}
+use Rattle.bpg_writer.proofs.PutLaws.{Put, put-end, put-same, put-then}
 use borrow.Author.Needs.{needs}
 use Rattle.bpg_writer.proofs.file.emit_file.Statement.{statement}
 use Rattle.bpg_writer.proofs.file.emit_file.Tie as tie
@@ -16,19 +16,19 @@ use Rattle.bpg_writer.proofs.file.emit_file.Tie as tie
 -- the parts, and that they fit
 module _ (s : tie.Start) where
   abbrev head-part : List ℕ
-  head-part = headPart (s .args .«record») (select (s .args .«record» .«explicit_length») (s .args .layout .body) 0)
+  head-part = headPart (s .args .«record») (select (s .args .«record» .«explicit_length») (s .args .layout .«headers_and_data») 0)
 
   abbrev block-part : List ℕ
   block-part = blockPart (s .args .«record») (s .args .source .now)
 
-  abbrev body-part : List ℕ
-  body-part = bodyPart (s .args .«record» .«alpha1_flag» || s .args .«record» .«alpha2_flag») (s .args .alpha) (s .args .color) (s .args .source .now) (s .args .«record» .«data»)
+  abbrev last-part : List ℕ
+  last-part = headersAndDataPart (s .args .«record» .«alpha1_flag» || s .args .«record» .«alpha2_flag») (s .args .alpha) (s .args .color) (s .args .source .now) (s .args .«record» .«data»)
 
-  fits : length head-part + (length block-part + length body-part) ≤ length (s .args .out .now)
-  fits = omega (arith, s .pre .1 .1 .1 .1 .1 .1 .1 .1 .1 .1, length-append head-part (block-part ++ body-part), length-append block-part body-part)
+  fits : length head-part + (length block-part + length last-part) ≤ length (s .args .out .now)
+  fits = omega (arith, s .pre .1 .1 .1 .1 .1 .1 .1 .1 .1 .1, length-append head-part (block-part ++ last-part), length-append block-part last-part)
 
   -- the data length is one of a file
-  coded : (t : Bool) → select t (s .args .layout .body) 0 ≤ maxFile
+  coded : (t : Bool) → select t (s .args .layout .«headers_and_data») 0 ≤ maxFile
   unfolding select
   coded true = s .pre .1 .1 .1 .1 .1 .1 .1 .1 .1 .0 .1
   coded false = omega arith
@@ -50,18 +50,18 @@ module _ (c : tie.After-head) where
   start = chosen .before .before .before
 
   head-put : Put (start .args .out .now) 0 (head-part start) (c .head .last .0) (c .head .result .0)
-  head-put = put-same (start .args .out .now) 0 _ _ _ _ (head-is chosen) (c .head .ensures)
+  head-put = put-same (start .args .out .now) 0 (head-is chosen) (c .head .ensures)
 
   head-end : (c .head .result .0 ≡ 0 + length (head-part start)) × (length (c .head .last .0) ≡ length (start .args .out .now))
-  head-end = put-end (start .args .out .now) 0 (head-part start) _ _ (omega (arith, fits start)) head-put
+  head-end = put-end (start .args .out .now) 0 (head-part start) (omega (arith, fits start)) head-put
 
 -- and whether there is a plane of alpha is known
-body-is : (c : tie.After-has-alpha)
+last-is : (c : tie.After-has-alpha)
     → let s = c .before .before .before .before .before .before .before .before .before .before .before .before .before in
-    bodyPart (c .has-alpha .result) (s .args .alpha) (s .args .color) (s .args .source .now) (s .args .«record» .«data») ≡ body-part s
-body-is c =
+    headersAndDataPart (c .has-alpha .result) (s .args .alpha) (s .args .color) (s .args .source .now) (s .args .«record» .«data») ≡ last-part s
+last-is c =
     let s = c .before .before .before .before .before .before .before .before .before .before .before .before .before in
-    ap (λ (t : Bool). bodyPart t (s .args .alpha) (s .args .color) (s .args .source .now) (s .args .«record» .«data»)) (c .has-alpha .ensures)
+    ap (λ (t : Bool). headersAndDataPart t (s .args .alpha) (s .args .color) (s .args .source .now) (s .args .«record» .«data»)) (c .has-alpha .ensures)
 
 cast-head : tie.Need-cast-head
 cast-head c = omega (arith, length-small (c .before))
@@ -81,16 +81,16 @@ block-requires c κs =
     let e = head-end h in
     (p .0, (p .1 .0, (p .1 .1 .1 .1 .1 .0, omega (arith, fits s, e .0, e .1))))
 
-body-requires : tie.Need-body-requires
-body-requires c κs =
+headers-and-data-requires : tie.Need-headers-and-data-requires
+headers-and-data-requires c κs =
     let a = c .before .before in
     let b = a .before .before .before in
     let h = b .before .before .before .before .before in
     let s = h .before .before .before .before .before in
     let p = s .pre .1 .1 .1 .1 .1 in
     let e = head-end h in
-    let f = put-end (h .head .last .0) (h .head .result .0) (block-part s) _ _ (omega (arith, fits s, e .0, e .1)) (b .block .ensures) in
-    (p .1 .0, (p .1 .1 .0, (p .0, omega (arith, fits s, e .0, e .1, f .0, f .1, ap length (body-is a)))))
+    let f = put-end (h .head .last .0) (h .head .result .0) (block-part s) (omega (arith, fits s, e .0, e .1)) (b .block .ensures) in
+    (p .1 .0, (p .1 .1 .0, (p .0, omega (arith, fits s, e .0, e .1, f .0, f .1, ap length (last-is a)))))
 
 returns : tie.Need-returns
 returns c =
@@ -99,9 +99,13 @@ returns c =
     let b = a .before .before .before in
     let h = b .before .before .before .before .before in
     let s = h .before .before .before .before .before in
-    put-three (s .args .out .now) 0 (head-part s) (block-part s) (body-part s) _ _ _ _ _ _ (head-put h) (b .block .ensures)
-    (put-same (b .block .last .0) (b .block .result .0) _ _ _ _ (body-is a) (w .body .ensures))
-    (omega (arith, fits s, length-append (head-part s) (block-part s ++ body-part s), length-append (block-part s) (body-part s))) .0
+    let after = block-part s ++ last-part s in
+    let all : 0 + length (head-part s ++ after) ≤ length (s .args .out .now) =
+    omega (arith, fits s, length-append (head-part s) after, length-append (block-part s) (last-part s)) in
+    let put =
+    put-then (s .args .out .now) 0 (head-part s) after all (head-put h) λ f.
+    put-then (h .head .last .0) _ (block-part s) (last-part s) f (b .block .ensures) λ _. put-same (b .block .last .0) _ (last-is a) (w .headers-and-data .ensures) in
+    put .0
 
 pub emit-file-spec : {M : Type 1} → statement M
 emit-file-spec =
@@ -113,6 +117,6 @@ emit-file-spec =
     (λ c. search needs)
     block-requires
     (λ c κs. search needs)
-    body-requires
+    headers-and-data-requires
     (λ c. search needs)
     returns)

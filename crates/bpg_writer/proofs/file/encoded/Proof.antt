@@ -8,7 +8,7 @@ use Rattle.bpg_write_bits.specs.declared.BitBuffer.{BitBuffer}
 use Rattle.bpg_write_bits.proofs.BitBufferLaws.{gathered-most}
 use Rattle.bpg_format.specs.declared.record.Header.{Header}
 use Rattle.bpg_format.specs.Syntax.{headerBits}
-use Rattle.bpg_writer.specs.Parts.{Encoded}
+use Rattle.bpg_writer.specs.FileParts.{Encoded}
 use Rattle.bpg_writer.proofs.file.encoded.Statement.{statement}
 use Rattle.bpg_writer.proofs.file.encoded.Tie as tie
 

@@ -19,7 +19,7 @@ use Rattle.bpg_format.proofs.Typed.{headers-count, typed}
 use Rattle.bpg_write_check.proofs.ConsistentLaws.{header-at}
 use Rattle.bpg_write_check.proofs.Judgement.{check-passes}
 use Rattle.bpg_writer.specs.declared.layout.Layout.{Layout}
-use Rattle.bpg_writer.specs.Parts.{Encoded, entriesPart, filePart}
+use Rattle.bpg_writer.specs.FileParts.{Encoded, entriesPart, filePart}
 use Rattle.bpg_writer.proofs.JudgedLaws.{Judged, judged}
 use Rattle.bpg_writer.proofs.SizeLaws.{entries-measured, file-is, total-measured, block-inside}
 use Rattle.bpg_writer.proofs.FileLaws.{Answers, Exact, exact, judged-out, too-long, too-small, file-written}
@@ -99,12 +99,12 @@ module _ (c : tie.After-measure) where
         block-inside (r coded) (source (begun coded)) (known (begun coded)) (coded .before .encoded .result) (coded .encoded2 .result) (alpha-encoded coded) (color-encoded coded),
       )
 
-  body-most : c .measure .result .body ≤ c .measure .result .total
-  body-most = omega (arith, ap (λ (l : Layout). l .body) (c .measure .ensures), ap (λ (l : Layout). l .total) (c .measure .ensures))
+  headers-and-data-most : c .measure .result .«headers_and_data» ≤ c .measure .result .total
+  headers-and-data-most = omega (arith, ap (λ (l : Layout). l .«headers_and_data») (c .measure .ensures), ap (λ (l : Layout). l .total) (c .measure .ensures))
 
-  file-part : filePart (r coded) (source (begun coded)) (c .measure .result .body) (coded .before .encoded .result) (coded .encoded2 .result) ≡ file
+  file-part : filePart (r coded) (source (begun coded)) (c .measure .result .«headers_and_data») (coded .before .encoded .result) (coded .encoded2 .result) ≡ file
   file-part =
-      ap (λ (l : Layout). filePart (r coded) (source (begun coded)) (l .body) (coded .before .encoded .result) (coded .encoded2 .result)) (c .measure .ensures)
+      ap (λ (l : Layout). filePart (r coded) (source (begun coded)) (l .«headers_and_data») (coded .before .encoded .result) (coded .encoded2 .result)) (c .measure .ensures)
       ∙ file-is (r coded) (source (begun coded)) (known (begun coded)) (coded .before .encoded .result) (coded .encoded2 .result) (alpha-encoded coded) (color-encoded coded)
 
 returns : tie.Need-returns
@@ -155,7 +155,7 @@ emit-file-requires c κs =
                     coded m .encoded2 .ensures .0,
                     (
                       block-is m,
-                      ((omega (arith, short, total-is m, block-most m), omega (arith, short, body-most m)), omega (arith, t .if3 .left, total-is m, ap length (file-part m))),
+                      ((omega (arith, short, total-is m, block-most m), omega (arith, short, headers-and-data-most m)), omega (arith, t .if3 .left, total-is m, ap length (file-part m))),
                     ),
                   ),
                 ),

@@ -10,7 +10,12 @@ use Rattle.bpg_writer.proofs.layout.measure.Tie as tie
 -- the sizes of width and height
 module _ (c : tie.After-size2) where
   width-size : c .before .before .size .result ≤ 10
-  width-size = omega (arith, c .before .before .size .ensures, size-most (c .before .before .before .before .before .before .before .before .before .before .args .«record» .«picture_width») (omega arith))
+  width-size =
+      omega (
+        arith,
+        c .before .before .size .ensures,
+        size-most (c .before .before .before .before .before .before .before .before .before .before .args .«record» .«picture_width») (omega arith),
+      )
 
   height-size : c .size2 .result ≤ 10
   height-size = omega (arith, c .size2 .ensures, size-most (c .before .before .before .before .before .before .before .before .before .before .args .«record» .«picture_height») (omega arith))
@@ -36,7 +41,16 @@ module _ (c : tie.After-size3) where
       + (alpha .header-size .result + color .header-size2 .result + extension .before .before .args .«record» .«data» .length)
       < 2 ^ 64
   sum-fits =
-      omega (arith, width-size both, height-size both, data-size, extension .extension-size .ensures .1, alpha .header-size .ensures .1, color .header-size2 .ensures .1, c .before .before .before .before .before .before .struct-known .given)
+      omega (
+        arith,
+        width-size both,
+        height-size both,
+        data-size,
+        extension .extension-size .ensures .1,
+        alpha .header-size .ensures .1,
+        color .header-size2 .ensures .1,
+        c .before .before .before .before .before .before .struct-known .given,
+      )
 
 add-size : tie.Need-add-size
 add-size c = omega (arith, width-size c, height-size c)

@@ -1,4 +1,4 @@
--- `emit::body` meets its contract.
+-- `emit::headers_and_data` meets its contract.
 use mathlib.Core.Path.{_≡_, ap}
 use mathlib.Core.Bool.{true}
 use mathlib.Core.List.{List, _++_}
@@ -6,11 +6,11 @@ use Prim.Native.Nat.{ℕ, _+_, _-_, _≤_}
 use native.Mathlib.Omega.{arith}
 use lib.ListN.{length, take, drop, length-append}
 use Rattle.bpg_format.specs.Records.{bytesIn}
-use Rattle.bpg_writer.specs.Parts.{headerPart}
-use Rattle.bpg_writer.proofs.PutLaws.{put-end, put-same, put-three}
+use Rattle.bpg_writer.specs.FileParts.{headerPart}
+use Rattle.bpg_writer.proofs.PutLaws.{put-end, put-same, put-then}
 use borrow.Author.Needs.{needs}
-use Rattle.bpg_writer.proofs.emit.body.Statement.{statement}
-use Rattle.bpg_writer.proofs.emit.body.Tie as tie
+use Rattle.bpg_writer.proofs.emit.headers_and_data.Statement.{statement}
+use Rattle.bpg_writer.proofs.emit.headers_and_data.Tie as tie
 
 module _ (s : tie.Start) where
   abbrev alpha-part : List ℕ
@@ -34,7 +34,7 @@ header-requires-2 : tie.Need-header-requires-2
 header-requires-2 c κs =
     let w = c .before .before .before in
     let s = w .before .before .before .before in
-    let e = put-end (s .args .out .now) (s .args .at .0) (alpha-part s) _ _ (omega (arith, fits s)) (w .header .ensures) in
+    let e = put-end (s .args .out .now) (s .args .at .0) (alpha-part s) (omega (arith, fits s)) (w .header .ensures) in
     (s .pre .1 .0, omega (arith, e .0, e .1, fits s))
 
 returns : tie.Need-returns
@@ -45,11 +45,12 @@ returns c =
     let s = h1 .before .before .before .before in
     let d = s .args .«data» in
     let n : d .start + d .length - d .start ≡ d .length = omega arith in
-    put-three (s .args .out .now) (s .args .at .0) (alpha-part s) (color-part s) _ _ _ _ _ _ _ (h1 .header .ensures) (h2 .header2 .ensures)
-    (put-same (h2 .header2 .last .0) (h2 .header2 .result .0) _ _ _ _ (ap (λ (m : ℕ). take m (drop (d .start) (s .args .source .now))) n) (w .write .ensures)) (s .pre .1 .1 .1)
+    put-then (s .args .out .now) (s .args .at .0) (alpha-part s) (color-part s ++ data-part s) (s .pre .1 .1 .1) (h1 .header .ensures) λ f.
+    put-then (h1 .header .last .0) _ (color-part s) (data-part s) f (h2 .header2 .ensures) λ _.
+    put-same (h2 .header2 .last .0) _ (ap (λ (m : ℕ). take m (drop (d .start) (s .args .source .now))) n) (w .write .ensures)
 
-pub body-spec : {M : Type 1} → statement M
-body-spec =
+pub headers-and-data-spec : {M : Type 1} → statement M
+headers-and-data-spec =
     tie.close
     (tie.spec
     header-requires

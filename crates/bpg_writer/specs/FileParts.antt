@@ -33,7 +33,7 @@ entriesPart r source = blockBytes (map (extensionOf source) (usedEntries r))
 abbrev pub blockPart : Record → (source : List ℕ) → List ℕ
 blockPart r source = select (r .«extension_present_flag») (ue7Bytes (length (entriesPart r source)) ++ entriesPart r source) []
 
--- the buffer has a header's bits, where the header is there; those of a header that keeps the rules fit
+-- the buffer has the bits of a header that is present; if it keeps the rules, they fit
 pub record Encoded (present : Bool) (h : Header) (b : BitBuffer) : Type 0 where
   pub is : present ≡ true → b ≡ gathered (headerBits h)
   pub short : present ≡ true → (depth : ℕ) → HevcRules depth h → length (headerBits h) ≤ 64
@@ -43,11 +43,11 @@ abbrev pub headerPart : (present : Bool) → BitBuffer → List ℕ
 headerPart present b = select present (ue7Bytes (bytesFor (b .len .0)) ++ bufferBytes b) []
 
 -- items 6 and 7
-abbrev pub bodyPart : (alpha : Bool) → (a c : BitBuffer) → (source : List ℕ) → Range → List ℕ
-bodyPart alpha a c source d = headerPart alpha a ++ (headerPart true c ++ bytesIn source d)
+abbrev pub headersAndDataPart : (alpha : Bool) → (a c : BitBuffer) → (source : List ℕ) → Range → List ℕ
+headersAndDataPart alpha a c source d = headerPart alpha a ++ (headerPart true c ++ bytesIn source d)
 
--- the whole file; `size` is that of the body
+-- the whole file; `size` is that of the headers and the data
 abbrev pub filePart : Record → (source : List ℕ) → (size : ℕ) → (a c : BitBuffer) → List ℕ
 filePart r source size a c =
     headPart r (select (r .«explicit_length») size 0)
-    ++ (blockPart r source ++ bodyPart (r .«alpha1_flag» || r .«alpha2_flag») a c source (r .«data»))
+    ++ (blockPart r source ++ headersAndDataPart (r .«alpha1_flag» || r .«alpha2_flag») a c source (r .«data»))
