@@ -1,0 +1,2 @@
+-- The laws of the deep check.
+pub mod LevelLaws

@@ -1,0 +1,3 @@
+-- The deep check: a file's thumbnails, and theirs.
+pub mod Thumbnails
+pub mod Answers
