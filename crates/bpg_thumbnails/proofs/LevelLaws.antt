@@ -28,16 +28,12 @@ use Rattle.bpg_thumbnails.specs.declared.answer.Checked.{Checked}
 use Rattle.bpg_thumbnails.specs.declared.levels.Size.{Size}
 use Rattle.bpg_thumbnails.specs.Thumbnails.{levelsBelow, recordIn, isAccepted, isSmaller, withTag4, thumbnails, each, checkThumbnail, checkEntries, checkFile}
 use Rattle.bpg_thumbnails.specs.Answers.{passed, refused, checkedOf, checkThumbnails, checkEntry, sizeOf, isSmallerSize, FileAt, EntryAt}
+use Rattle.bpg_thumbnails.proofs.EachLaws.{each-refuses, tagged-full}
 
 -- ---- the statuses
 
 abbrev pub ThumbnailStatus : ℕ → ℕ → Type 0
 ThumbnailStatus s o = (27 ≤ s) × (s ≤ 29)
-
-each-refuses : {A : Type 0} (P : ℕ → ℕ → Type 0) (check : A → Outcome (Unit {0})) → ((x : A) → Refuses P (check x)) → (xs : List A) → Refuses P (each check xs)
-unfolding each
-each-refuses P check h [] = refuses-ok P tt
-each-refuses P check h (x ∷ xs) = refuses-bind P (check x) _ (h x) λ _. each-refuses P check h xs
 
 pub thumbnail-refuses : (left : ℕ) (f : List ℕ) (start : ℕ) (e : Entry) → Refuses ThumbnailStatus (checkThumbnail left f start e)
 unfolding checkThumbnail
@@ -46,7 +42,11 @@ thumbnail-refuses (suc left) f start e =
     let g = bytesIn f (e .payload) in
     refuses-guard ThumbnailStatus (isAccepted g) 28 _ _ (omega arith, omega arith)
     (refuses-guard ThumbnailStatus (isSmaller (recordIn g) (recordIn f)) 29 _ _ (omega arith, omega arith)
-    (each-refuses ThumbnailStatus _ (thumbnail-refuses left g _) (thumbnails g)))
+    (each-refuses (checkThumbnail left g _) ThumbnailStatus (thumbnails g) (tagged-full _ (usedEntries (recordIn g)) λ k t. thumbnail-refuses left g _ _)))
+
+pub entries-refuse : (left : ℕ) (f : List ℕ) (start : ℕ) → Refuses ThumbnailStatus (checkEntries left f start)
+entries-refuse left f start =
+    each-refuses (checkThumbnail left f start) ThumbnailStatus (thumbnails f) (tagged-full _ (usedEntries (recordIn f)) λ k t. thumbnail-refuses left f start _)
 
 -- ---- an entry: x is what its check answers
 

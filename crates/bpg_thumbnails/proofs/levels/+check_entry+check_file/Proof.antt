@@ -18,7 +18,8 @@ use Rattle.bpg_thumbnails.proofs.answer.passed.Reads as passed-reads
 use Rattle.bpg_thumbnails.proofs.answer.refused.Reads as refused-reads
 use Rattle.bpg_thumbnails.proofs.levels.is_smaller.Reads as is-smaller-reads
 use Rattle.bpg_thumbnails.specs.Thumbnails.{checkEntries}
-use Rattle.bpg_thumbnails.proofs.LevelLaws.{entry-other, entry-deep, entry-unread, entry-large, entry-entered, thumbnail-at, rest, rest-all, count-most, entry-at, file-stops, file-goes-on, file-ends}
+use Rattle.bpg_thumbnails.proofs.LevelLaws.{entry-other, entry-deep, entry-unread, entry-large, entry-entered, thumbnail-at}
+use Rattle.bpg_thumbnails.proofs.LevelLaws.{rest, rest-all, count-most, entry-at, file-stops, file-goes-on, file-ends}
 use Rattle.bpg_thumbnails.proofs.levels.+check_entry+check_file.{statement}
 use Rattle.bpg_thumbnails.proofs.levels.+check_entry+check_file.Tie.{close}
 
