@@ -5,6 +5,7 @@ pub mod faults;
 pub mod header;
 pub mod large;
 pub mod model;
+pub mod nested;
 pub mod random;
 pub mod records;
 

@@ -4,12 +4,14 @@ mod buffers;
 mod canonical;
 mod read;
 mod table;
+mod thumbnails;
 mod write;
 
 pub use buffers::Buffers;
 pub use canonical::{canonical, canonical_in};
 pub use read::read;
 pub use table::{Call, Table};
+pub use thumbnails::{thumbnails, Statuses};
 pub use write::{write, write_in};
 
 use bpg::Refusal;

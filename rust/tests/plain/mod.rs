@@ -9,11 +9,13 @@ mod encode;
 mod header;
 mod list;
 mod reader;
+mod thumbnails;
 mod writer;
 
 pub use canonical::canonicalize;
 pub use list::{read_list, record_of, NUMBERS, RECORD};
 pub use reader::read;
+pub use thumbnails::check_thumbnails;
 pub use writer::{write, write_list};
 
 use bpg::{Reason, Refusal};
