@@ -117,9 +117,9 @@ enum bpg_status {
     BPG_BAD_NAL_LAYER = 23,     /* frames: a layer above 1, layer 1 without alpha, or a VPS or SPS */
     BPG_BAD_DURATION = 24,      /* frames: 0, two with no frame start between, or one with no frame after it */
     BPG_BAD_FRAME_COUNT = 25,   /* frames: a still file without exactly one, an animated one with fewer than two */
-    BPG_THUMBNAIL_TOO_DEEP = 27, /* thumbnails: one at level 5, the file itself being level 1 */
+    BPG_DEEP_THUMBNAIL = 27,    /* thumbnails: one at level 5, the file being level 1 */
     BPG_BAD_THUMBNAIL = 28,     /* thumbnails: one that is itself refused */
-    BPG_THUMBNAIL_NOT_SMALLER = 29 /* thumbnails: one wider or taller than its parent, or of its size */
+    BPG_LARGE_THUMBNAIL = 29    /* thumbnails: one wider or taller than its parent, or of its size */
 };
 
 /* Reads a file. Success: status 0, the first 117 numbers are the reading's, the rest of the list is unchanged. A list shorter than 117 is

@@ -191,7 +191,7 @@ pub fn frames(file: &[u8]) -> Result<Vec<u16>, Refusal> {
 /// assert_eq!(bpg::check_thumbnails(&parent(16)), Ok(()));
 ///
 /// let refusal = bpg::check_thumbnails(&parent(8)).unwrap_err();
-/// assert_eq!(refusal.reason, bpg::Reason::ThumbnailNotSmaller);
+/// assert_eq!(refusal.reason, bpg::Reason::LargeThumbnail);
 /// assert_eq!(refusal.offset, 13);
 /// ```
 pub fn check_thumbnails(file: &[u8]) -> Result<(), Refusal> {

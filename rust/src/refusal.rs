@@ -57,9 +57,9 @@ reasons! {
     23 BadNalLayer "a NAL unit has a layer above 1, layer 1 without alpha, or is a VPS or SPS",
     24 BadDuration "a frame duration is 0, is the second for its frame, or has no frame after it",
     25 BadFrameCount "a still file has not exactly one frame, or an animated one fewer than two",
-    27 ThumbnailTooDeep "a thumbnail stands at level 5",
+    27 DeepThumbnail "a thumbnail stands at level 5",
     28 BadThumbnail "a thumbnail is itself refused",
-    29 ThumbnailNotSmaller "a thumbnail is wider or taller than its parent, or of its size",
+    29 LargeThumbnail "a thumbnail is wider or taller than its parent, or of its size",
 }
 
 impl Reason {

@@ -1,6 +1,6 @@
 // The deep check for C and Rust.
 ghost use mathlib.Core.Path.{_≡_};
-ghost use Rattle.bpg_thumbnails.specs.Answers.{checkThumbnails};
+ghost use Rattle.bpg_thumbnails.specs.Calls.{checkThumbnails};
 
 // Whether the thumbnails of a file comply, and theirs at every level: status and offset.
 #[no_mangle]

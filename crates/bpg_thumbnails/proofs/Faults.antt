@@ -2,12 +2,11 @@
 use mathlib.Core.Path.{_≡_, refl, sym, ap, _∙_}
 use mathlib.Core.List.{List}
 use mathlib.Core.Logic.{_≢_}
-use Prim.Native.Nat.{ℕ, zero, suc, _+_, _-_, _≤_, _<_}
+use Prim.Native.Nat.{ℕ, zero, suc, _+_, _-_, _≤_}
 use native.Mathlib.Omega.{arith}
 use lib.ListN.{length, take, drop, length-take, length-drop, drop-of-length-le}
 use lib.Seq.{take-length, take-take, take-all, drop-drop}
 use borrow.Author.Tests.{eq-eqb, eqb-true, eqb-false}
-use Rattle.bpg_codec.specs.Outcome.{Outcome, ok, error, _>>=_, guard}
 use Rattle.bpg_codec.proofs.Answers.{refused-error}
 use Rattle.bpg_codec.proofs.Lists.{either-way, take-drop}
 use Rattle.bpg_codec.proofs.Refusals.{Refuses, refuses-error}
@@ -15,9 +14,9 @@ use Rattle.bpg_codec.proofs.Select.{is-true}
 use Rattle.bpg_format.specs.Records.{usedEntries, readFile}
 use Rattle.bpg_format.specs.Parts.{entryOf, payloadOf}
 use Rattle.bpg_format.proofs.RuleLaws.{bool-apart}
-use Rattle.bpg_thumbnails.specs.Thumbnails.{levelsBelow, recordIn, isAccepted, isSmaller, thumbnails, checkThumbnail, checkEntries, checkFile}
-use Rattle.bpg_thumbnails.specs.Nested.{HasThumbnail, entry, Within, outer, inner}
-use Rattle.bpg_thumbnails.specs.Answers.{checkedOf, checkThumbnails}
+use Rattle.bpg_thumbnails.specs.Thumbnails.{levelsBelow, recordIn, isAccepted, sizeOf, isSmaller, thumbnails, checkThumbnail, checkEntries, checkFile}
+use Rattle.bpg_thumbnails.specs.Nested.{entry, Within, outer, inner}
+use Rattle.bpg_thumbnails.specs.Calls.{checkedOf, checkThumbnails}
 use Rattle.bpg_thumbnails.specs.Requirements.{Fault, too-deep, refused-itself, not-smaller, Faulty}
 use Rattle.bpg_thumbnails.proofs.EachLaws.{refuses-test, each-refuses, tagged-full}
 use Rattle.bpg_thumbnails.proofs.Passing.{smaller-full}
@@ -36,7 +35,7 @@ module _ (f : List ℕ) where
       let h = payloadOf g k in
       refuses-test (Faulty f) (isAccepted h) 28 _ _
       (λ e. faulty l g o w k t 28 (refused-itself (omega arith) (eqb-false (readFile h .status) 0 e))) λ a.
-      refuses-test (Faulty f) (isSmaller (recordIn h) (recordIn g)) 29 _ _
+      refuses-test (Faulty f) (isSmaller (sizeOf (recordIn h)) (sizeOf (recordIn g))) 29 _ _
       (λ e. faulty l g o w k t 29 (not-smaller (omega arith) (eqb-true (readFile h .status) 0 a) (λ c. bool-apart (is-true _ (smaller-full h g c)) e))) λ b.
       each-refuses (checkThumbnail left h _) (Faulty f) (thumbnails h) (tagged-full _ (usedEntries (recordIn h)) λ j u.
       faults left (suc l) h _ (omega arith) (inner l g o _ _ w (entry k t)) j u)

@@ -10,12 +10,12 @@ use lib.Seq.{getD-take}
 use lib.Dec.{eqb}
 use borrow.Author.Tests.{eq-eqb, ne-eqb, not-true, not-false}
 use Rattle.bpg_codec.specs.Select.{select}
-use Rattle.bpg_codec.specs.Outcome.{Outcome, ok, error, _>>=_, guard}
+use Rattle.bpg_codec.specs.Outcome.{Outcome, ok, _>>=_, guard}
 use Rattle.bpg_codec.proofs.Answers.{refused-error, accepted-value}
 use Rattle.bpg_codec.proofs.Lists.{drop-next}
-use Rattle.bpg_codec.proofs.Refusals.{Refuses, refuses-ok, refuses-error, refuses-bind, refuses-guard, refuses-select}
+use Rattle.bpg_codec.proofs.Refusals.{Refuses, refuses-ok, refuses-error, refuses-guard, refuses-select}
 use Rattle.bpg_codec.proofs.Select.{select-true, select-false}
-use Rattle.bpg_format.specs.Limits.{maxEntries, maxFile}
+use Rattle.bpg_format.specs.Limits.{maxEntries}
 use Rattle.bpg_format.specs.declared.record.Entry.{Entry}
 use Rattle.bpg_format.specs.declared.record.Record.{Record}
 use Rattle.bpg_format.specs.declared.answer.Reading.{Reading}
@@ -26,8 +26,9 @@ use Rattle.bpg_format.specs.Parts.{entryOf, rangeEnd}
 use Rattle.bpg_format.proofs.Requirements.{reading, ranges}
 use Rattle.bpg_thumbnails.specs.declared.answer.Checked.{Checked}
 use Rattle.bpg_thumbnails.specs.declared.levels.Size.{Size}
-use Rattle.bpg_thumbnails.specs.Thumbnails.{levelsBelow, recordIn, isAccepted, isSmaller, withTag4, thumbnails, each, checkThumbnail, checkEntries, checkFile}
-use Rattle.bpg_thumbnails.specs.Answers.{passed, refused, checkedOf, checkThumbnails, checkEntry, sizeOf, isSmallerSize, FileAt, EntryAt}
+use Rattle.bpg_thumbnails.specs.Thumbnails.{levelsBelow, recordIn, isAccepted, sizeOf, isSmaller, withTag4, thumbnails, each, checkThumbnail, checkEntries, checkFile}
+use Rattle.bpg_thumbnails.specs.Calls.{passed, refused, checkedOf, checkThumbnails}
+use Rattle.bpg_thumbnails.specs.Answers.{checkEntry, FileAt, EntryAt}
 use Rattle.bpg_thumbnails.proofs.EachLaws.{each-refuses, tagged-full}
 
 -- ---- the statuses
@@ -35,13 +36,13 @@ use Rattle.bpg_thumbnails.proofs.EachLaws.{each-refuses, tagged-full}
 abbrev pub ThumbnailStatus : ℕ → ℕ → Type 0
 ThumbnailStatus s o = (27 ≤ s) × (s ≤ 29)
 
-pub thumbnail-refuses : (left : ℕ) (f : List ℕ) (start : ℕ) (e : Entry) → Refuses ThumbnailStatus (checkThumbnail left f start e)
+thumbnail-refuses : (left : ℕ) (f : List ℕ) (start : ℕ) (e : Entry) → Refuses ThumbnailStatus (checkThumbnail left f start e)
 unfolding checkThumbnail
 thumbnail-refuses zero f start e = refuses-error ThumbnailStatus 27 _ (omega arith, omega arith)
 thumbnail-refuses (suc left) f start e =
     let g = bytesIn f (e .payload) in
     refuses-guard ThumbnailStatus (isAccepted g) 28 _ _ (omega arith, omega arith)
-    (refuses-guard ThumbnailStatus (isSmaller (recordIn g) (recordIn f)) 29 _ _ (omega arith, omega arith)
+    (refuses-guard ThumbnailStatus (isSmaller (sizeOf (recordIn g)) (sizeOf (recordIn f))) 29 _ _ (omega arith, omega arith)
     (each-refuses (checkThumbnail left g _) ThumbnailStatus (thumbnails g) (tagged-full _ (usedEntries (recordIn g)) λ k t. thumbnail-refuses left g _ _)))
 
 pub entries-refuse : (left : ℕ) (f : List ℕ) (start : ℕ) → Refuses ThumbnailStatus (checkEntries left f start)
@@ -80,15 +81,15 @@ module _ (left : ℕ) (f : List ℕ) (start : ℕ) (e : Entry) where
 
       module _ (n : left ≢ 0) (r : Reading) (read : r ≡ readFile part) where
         entered : checkEntry left f start e
-            ≡ (guard (isAccepted part) 28 offset >>= λ _. guard (isSmaller (recordIn part) (recordIn f)) 29 offset >>= λ _. checkEntries (left - 1) part offset)
+            ≡ (guard (isAccepted part) 28 offset >>= λ _. guard (isSmaller (sizeOf (recordIn part)) (sizeOf (recordIn f))) 29 offset >>= λ _. checkEntries (left - 1) part offset)
         unfolding checkThumbnail
         entered = let s : left ≡ suc (left - 1) = omega arith in entry-is ∙ ap (λ (k : ℕ). checkThumbnail k f start e) s ∙ rw part-is
 
         pub entry-unread : x ≡ refused 28 offset → r .status ≢ 0 → Answers
         entry-unread a h = a ∙ rw (entered, ← read, ne-eqb (r .status) 0 h)
 
-        module _ (z : r .status ≡ 0) (parent : Size) (p : parent ≡ sizeOf (recordIn f)) (b : Bool) (c : b ≡ isSmallerSize (sizeOf (r .«record»)) parent) where
-          smaller-is : isSmaller (recordIn part) (recordIn f) ≡ b
+        module _ (z : r .status ≡ 0) (parent : Size) (p : parent ≡ sizeOf (recordIn f)) (b : Bool) (c : b ≡ isSmaller (sizeOf (r .«record»)) parent) where
+          smaller-is : isSmaller (sizeOf (recordIn part)) (sizeOf (recordIn f)) ≡ b
           smaller-is = sym (c ∙ rw (p, read))
 
           pub entry-large : x ≡ refused 29 offset → not b ≡ true → Answers
@@ -114,7 +115,7 @@ module _ (left : ℕ) (f : List ℕ) (start : ℕ) where
       by false = refl
 
   module _ (e : Entry) (es : List Entry) (x : Checked) (c : x ≡ checkedOf (checkEntry left f start e)) where
-    pub rest-stops : x .status ≢ 0 → x ≡ checkedOf (rest (e ∷ es))
+    rest-stops : x .status ≢ 0 → x ≡ checkedOf (rest (e ∷ es))
     rest-stops n =
         refused-error checkedOf (λ r. r .status) (λ _. refl) (λ _ _. refl) (checkEntry left f start e) x c n λ s o w. rw (c, rest-next e es, w)
 
@@ -124,7 +125,7 @@ module _ (left : ℕ) (f : List ℕ) (start : ℕ) where
         refuses-select (λ s o. s ≢ 0) (eqb (e .tag) 4) (checkThumbnail left f start e) (ok tt)
         (λ s o w z. let t = thumbnail-refuses left f start e s o w in omega arith) (refuses-ok (λ s o. s ≢ 0) tt)
 
-    pub rest-goes-on : x .status ≡ 0 → rest (e ∷ es) ≡ rest es
+    rest-goes-on : x .status ≡ 0 → rest (e ∷ es) ≡ rest es
     rest-goes-on z =
         accepted-value checkedOf (λ r. r .status) (λ _. refl) (λ _ _. refl) (checkEntry left f start e) x c z not-zero λ u w. rw (rest-next e es, w)
 
@@ -138,7 +139,7 @@ module _ {f : List ℕ} {r : Record} {start : ℕ} (p : FileAt f r start) where
       let e : r ≡ recordOf (a .0) = p .record-is ∙ ap recordIn (a .2) ∙ ap (λ (x : Reading). x .«record») (reading .the-answer (a .0) (a .1)) in
       subst (λ (x : Record). x .«entry_count» ≤ maxEntries) (sym e) (a .1 .entry-limit)
 
-  pub used-length : length (usedEntries r) ≡ r .«entry_count»
+  used-length : length (usedEntries r) ≡ r .«entry_count»
   used-length =
       let es = usedEntries (recordIn f) in
       let d = recordIn f .«data» in

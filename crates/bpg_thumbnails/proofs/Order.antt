@@ -2,11 +2,11 @@
 use mathlib.Core.Path.{_≡_, refl, sym, ap, _∙_, subst}
 use mathlib.Core.Bool.{Bool, true, false}
 use mathlib.Core.List.{List, [], _∷_}
-use mathlib.Core.Logic.{_⊎_, inl, inr, ⊎-elim, _≢_}
+use mathlib.Core.Logic.{_⊎_, inl, inr, ⊎-elim}
 use Prim.Native.Nat.{ℕ, zero, suc, _+_, _≤_, _<_}
 use native.Mathlib.Omega.{arith}
 use lib.Dec.{T, eqb}
-use lib.ListN.{length, take, drop, getD, length-take, List·getD-eq-default}
+use lib.ListN.{length, drop, getD, length-take, List·getD-eq-default}
 use borrow.Author.Tests.{eq-eqb, eqb-true}
 use Rattle.bpg_codec.specs.Select.{select}
 use Rattle.bpg_codec.specs.Outcome.{Outcome, ok, error, _>>=_, guard}
@@ -22,11 +22,11 @@ use Rattle.bpg_format.specs.Records.{usedEntries, readFile}
 use Rattle.bpg_format.specs.Parts.{entryOf, payloadOf, rangeEnd}
 use Rattle.bpg_format.proofs.Requirements.{reading, ranges}
 use Rattle.bpg_thumbnails.specs.declared.answer.Checked.{Checked}
-use Rattle.bpg_thumbnails.specs.Thumbnails.{levelsBelow, recordIn, isAccepted, isSmaller, withTag4, thumbnails, each, checkThumbnail, checkEntries, checkFile}
+use Rattle.bpg_thumbnails.specs.Thumbnails.{levelsBelow, recordIn, isAccepted, sizeOf, isSmaller, withTag4, thumbnails, each, checkThumbnail, checkEntries, checkFile}
 use Rattle.bpg_thumbnails.specs.Nested.{HasThumbnail, entry, Within, outer, inner, Smaller}
-use Rattle.bpg_thumbnails.specs.Answers.{refused, checkThumbnails}
+use Rattle.bpg_thumbnails.specs.Calls.{refused, checkThumbnails}
 use Rattle.bpg_thumbnails.specs.Requirements.{Fault, too-deep, refused-itself, not-smaller, Faulty}
-use Rattle.bpg_thumbnails.proofs.EachLaws.{refuses-test, Passes, each-sound, each-refuses, tagged-sound, tagged-full}
+use Rattle.bpg_thumbnails.proofs.EachLaws.{refuses-test, each-sound, each-refuses, tagged-sound, tagged-full}
 use Rattle.bpg_thumbnails.proofs.Passing.{smaller-sound}
 
 -- ---- the entries of an accepted file
@@ -76,7 +76,7 @@ in-payload (suc left) g o bytes k =
     let h = payloadOf g k in
     let e = entryOf g k in
     refuses-test (InPayload o e) (isAccepted h) 28 _ _ (λ _. (omega arith, omega arith)) λ a.
-    refuses-test (InPayload o e) (isSmaller (recordIn h) (recordIn g)) 29 _ _ (λ _. (omega arith, omega arith)) λ b.
+    refuses-test (InPayload o e) (isSmaller (sizeOf (recordIn h)) (sizeOf (recordIn g))) 29 _ _ (λ _. (omega arith, omega arith)) λ b.
     each-refuses (checkThumbnail left h _) (InPayload o e) (thumbnails h) (tagged-full _ (usedEntries (recordIn h)) λ j t s q w.
     let i = in-payload left h (o + e .payload .start) (payload-bytes g bytes k) j s q w in
     let n = inside h (payload-bytes g bytes k) (eqb-true (readFile h .status) 0 a) j (is-entry h j t) in
@@ -143,7 +143,7 @@ module _ {q l : ℕ} {g : List ℕ} {o : ℕ} (x : Open q l g o) (k : ℕ) (t : 
   abbrev Entering : Type 0
   Entering = (q ≤ offset) ⊎ (Open q (suc l) thumbnail offset × Smaller thumbnail g)
 
-  tested : (n : ℕ) → l + suc n ≡ 4 → (a b : Bool) → isAccepted thumbnail ≡ a → isSmaller (recordIn thumbnail) (recordIn g) ≡ b
+  tested : (n : ℕ) → l + suc n ≡ 4 → (a b : Bool) → isAccepted thumbnail ≡ a → isSmaller (sizeOf (recordIn thumbnail)) (sizeOf (recordIn g)) ≡ b
       → Refuses (λ _ r. q ≤ r) (guard a 28 offset >>= λ _. guard b 29 offset >>= λ _. checkEntries n thumbnail offset) → Entering
   tested n e false b c d h = inl (h 28 offset refl)
   tested n e true false c d h = inl (h 29 offset refl)
@@ -156,7 +156,7 @@ module _ {q l : ℕ} {g : List ℕ} {o : ℕ} (x : Open q l g o) (k : ℕ) (t : 
   entering : (n : ℕ) → l + n ≡ 4 → Refuses (λ _ r. q ≤ r) (checkThumbnail n g o (entryOf g k)) → Entering
   unfolding checkThumbnail payloadOf
   entering zero e h = inl (h 27 offset refl)
-  entering (suc n) e h = tested n e (isAccepted thumbnail) (isSmaller (recordIn thumbnail) (recordIn g)) refl refl h
+  entering (suc n) e h = tested n e (isAccepted thumbnail) (isSmaller (sizeOf (recordIn thumbnail)) (sizeOf (recordIn g))) refl refl h
 
   step : Entering
   step = entering (x .left) (x .level) later-too

@@ -6,11 +6,11 @@ use mathlib.Core.Logic.{_⊎_, inl, inr, _≢_}
 use Prim.Native.Nat.{ℕ, zero, suc, _+_}
 use lib.Dec.{T, eqb, leb, leb→le, le→leb}
 use borrow.Author.Tests.{eq-eqb, ne-eqb, eqb-true, eqb-false}
-use Rattle.bpg_codec.proofs.Outcome.{error-not-ok, unbind, unguard}
+use Rattle.bpg_codec.proofs.Outcome.{error-not-ok, unguard}
 use Rattle.bpg_codec.proofs.Select.{is-true, and-left, and-right, and-both}
 use Rattle.bpg_format.specs.Records.{usedEntries, readFile}
 use Rattle.bpg_format.specs.Parts.{entryOf, payloadOf}
-use Rattle.bpg_thumbnails.specs.Thumbnails.{recordIn, isAccepted, isSmaller, checkThumbnail, checkEntries}
+use Rattle.bpg_thumbnails.specs.Thumbnails.{recordIn, isAccepted, sizeOf, isSmaller, checkThumbnail, checkEntries}
 use Rattle.bpg_thumbnails.specs.Nested.{Smaller}
 use Rattle.bpg_thumbnails.proofs.EachLaws.{Passes, each-sound, each-full, tagged-sound, tagged-full}
 
@@ -42,7 +42,7 @@ module _ (h g : List ℕ) where
   abbrev unequal : Bool
   unequal = not (eqb (w h) (w g) && eqb (t h) (t g))
 
-  pub smaller-sound : T (isSmaller (recordIn h) (recordIn g)) → Smaller h g
+  pub smaller-sound : T (isSmaller (sizeOf (recordIn h)) (sizeOf (recordIn g))) → Smaller h g
   smaller-sound s =
       let r = and-right (leb (w h) (w g)) (leb (t h) (t g) && unequal) s in
       record {
@@ -51,7 +51,7 @@ module _ (h g : List ℕ) where
         differs = differs (w h) (w g) (t h) (t g) (and-right (leb (t h) (t g)) unequal r);
       }
 
-  pub smaller-full : Smaller h g → T (isSmaller (recordIn h) (recordIn g))
+  pub smaller-full : Smaller h g → T (isSmaller (sizeOf (recordIn h)) (sizeOf (recordIn g)))
   smaller-full s =
       and-both (leb (w h) (w g)) _ (le→leb (w h) (w g) (s .width))
       (and-both (leb (t h) (t g)) unequal (le→leb (t h) (t g) (s .height)) (differing (w h) (w g) (t h) (t g) (s .differs)))
@@ -72,7 +72,7 @@ unfolding checkThumbnail payloadOf
 entered-sound zero g o k e = absurd (error-not-ok e)
 entered-sound (suc left) g o k e =
     unguard (isAccepted (payloadOf g k)) 28 _ _ e λ a b.
-    unguard (isSmaller (recordIn (payloadOf g k)) (recordIn g)) 29 _ _ b λ c d.
+    unguard (isSmaller (sizeOf (recordIn (payloadOf g k))) (sizeOf (recordIn g))) 29 _ _ b λ c d.
     record {
       below = left;
       level = refl;
@@ -84,7 +84,7 @@ entered-sound (suc left) g o k e =
 entered-full : (left : ℕ) (g : List ℕ) (o k : ℕ) → Entered left g o k → Passes (checkThumbnail left g o (entryOf g k))
 unfolding checkThumbnail payloadOf
 entered-full left g o k p =
-    let s = is-true (isSmaller (recordIn (payloadOf g k)) (recordIn g)) (smaller-full (payloadOf g k) g (p .smaller)) in
+    let s = is-true (isSmaller (sizeOf (recordIn (payloadOf g k))) (sizeOf (recordIn g))) (smaller-full (payloadOf g k) g (p .smaller)) in
     rw (p .level, eq-eqb (readFile (payloadOf g k) .status) 0 (p .accepted), s) (p .passes)
 
 module _ (left : ℕ) (g : List ℕ) (o : ℕ) where

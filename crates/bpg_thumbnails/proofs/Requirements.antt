@@ -1,11 +1,10 @@
 -- Request 4/13 holds.
-use mathlib.Core.Path.{_≡_, refl, sym, ap, _∙_, subst}
+use mathlib.Core.Path.{_≡_, refl, ap, subst}
 use mathlib.Core.Bool.{Bool, true, false}
 use mathlib.Core.List.{List}
-use mathlib.Core.Logic.{_↔_, _≢_}
-use Prim.Native.Nat.{ℕ, zero, suc, _+_, _≤_}
+use mathlib.Core.Logic.{_≢_}
+use Prim.Native.Nat.{ℕ, zero, suc, _+_}
 use native.Mathlib.Omega.{arith}
-use lib.Dec.{T, eqb}
 use borrow.Author.Tests.{eq-eqb, ne-eqb, eqb-true, eqb-false}
 use Rattle.bpg_codec.specs.Outcome.{Outcome, ok, error, _>>=_, guard}
 use Rattle.bpg_codec.proofs.Outcome.{unguard}
@@ -16,11 +15,11 @@ use Rattle.bpg_format.specs.Parts.{entryOf, payloadOf}
 use Rattle.bpg_thumbnails.specs.declared.answer.Checked.{Checked}
 use Rattle.bpg_thumbnails.specs.Thumbnails.{levelsBelow, isAccepted, checkEntries, checkFile}
 use Rattle.bpg_thumbnails.specs.Nested.{HasThumbnail, entry, Within, outer, inner, Smaller}
-use Rattle.bpg_thumbnails.specs.Answers.{passed, refused, checkedOf, checkThumbnails}
+use Rattle.bpg_thumbnails.specs.Calls.{passed, refused, checkedOf, checkThumbnails}
 use Rattle.bpg_thumbnails.specs.Requirements.{Complies, Exactly, Refusals}
 use Rattle.bpg_thumbnails.proofs.LevelLaws.{entries-refuse}
 use Rattle.bpg_thumbnails.proofs.EachLaws.{Passes}
-use Rattle.bpg_thumbnails.proofs.Passing.{Entered, entries-sound, entries-full}
+use Rattle.bpg_thumbnails.proofs.Passing.{entries-sound, entries-full}
 use Rattle.bpg_thumbnails.proofs.Faults.{refused-at, in-place}
 use Rattle.bpg_thumbnails.proofs.Order.{first}
 

@@ -1,43 +1,22 @@
--- What the functions answer, and what the inner ones are given.
-use mathlib.Core.Bool.{Bool, not, _&&_}
+-- What the inner functions are given, and what they answer.
 use mathlib.Core.List.{List}
 use mathlib.Core.Path.{_≡_}
 use Prim.Native.Nat.{ℕ, _+_, _≤_}
-use lib.Dec.{eqb, leb}
+use lib.Dec.{eqb}
 use lib.ListN.{length}
 use Rattle.bpg_codec.specs.Select.{select}
-use Rattle.bpg_codec.specs.Outcome.{Outcome, ok, error}
+use Rattle.bpg_codec.specs.Outcome.{Outcome, ok}
 use Rattle.bpg_format.specs.Limits.{maxFile}
 use Rattle.bpg_format.specs.declared.record.Entry.{Entry}
 use Rattle.bpg_format.specs.declared.record.Record.{Record}
 use Rattle.bpg_format.specs.Rules.{Accepted}
 use Rattle.bpg_format.specs.Parts.{rangeEnd}
-use Rattle.bpg_thumbnails.specs.declared.answer.Checked.{Checked}
 use Rattle.bpg_thumbnails.specs.declared.levels.Size.{Size}
-use Rattle.bpg_thumbnails.specs.Thumbnails.{recordIn, checkThumbnail, checkFile}
-
-abbrev pub passed : Checked
-passed = record { status = 0; offset = 0 }
-
-abbrev pub refused : (status offset : ℕ) → Checked
-refused s o = record { status = s; offset = o }
-
-abbrev pub checkedOf : Outcome (Unit {0}) → Checked
-checkedOf (ok _) = passed
-checkedOf (error s o) = refused s o
-
-unfoldable pub checkThumbnails : List ℕ → Checked
-checkThumbnails f = checkedOf (checkFile f)
+use Rattle.bpg_thumbnails.specs.Thumbnails.{recordIn, sizeOf, checkThumbnail}
 
 -- an entry without tag 4 is not looked into
 unfoldable pub checkEntry : (left : ℕ) (f : List ℕ) (start : ℕ) → Entry → Outcome (Unit {0})
 checkEntry left f start e = select (eqb (e .tag) 4) (checkThumbnail left f start e) (ok tt)
-
-abbrev pub sizeOf : Record → Size
-sizeOf r = record { width = r .«picture_width»; height = r .«picture_height» }
-
-abbrev pub isSmallerSize : Size → (parent : Size) → Bool
-isSmallerSize s p = leb (s .width) (p .width) && (leb (s .height) (p .height) && not (eqb (s .width) (p .width) && eqb (s .height) (p .height)))
 
 -- what the check of a file is given: an accepted file, which stands at `start` of the outer one, and its record
 pub record FileAt (f : List ℕ) (r : Record) (start : ℕ) : Type 0 where

@@ -8,7 +8,7 @@ use Rattle.bpg_codec.specs.Lawful.{All, Byte}
 use Rattle.bpg_format.specs.Records.{readFile}
 use Rattle.bpg_format.specs.Parts.{entryOf}
 use Rattle.bpg_thumbnails.specs.Nested.{HasThumbnail, Within, Smaller}
-use Rattle.bpg_thumbnails.specs.Answers.{passed, refused, checkThumbnails}
+use Rattle.bpg_thumbnails.specs.Calls.{passed, refused, checkThumbnails}
 
 -- "Accepted exactly when all levels comply and there is no level 5."
 pub record Complies (f : List ℕ) : Type 0 where

@@ -8,6 +8,7 @@ use Rattle.bpg_codec.specs.Outcome.{Outcome, ok, error, _>>=_, guard}
 use Rattle.bpg_format.specs.declared.record.Entry.{Entry}
 use Rattle.bpg_format.specs.declared.record.Record.{Record}
 use Rattle.bpg_format.specs.Records.{bytesIn, usedEntries, readFile}
+use Rattle.bpg_thumbnails.specs.declared.levels.Size.{Size}
 
 -- "The outer file is level 1; level 5 is not entered": levels 2, 3 and 4 are
 abbrev pub levelsBelow : ℕ
@@ -20,12 +21,12 @@ recordIn f = readFile f .«record»
 abbrev pub isAccepted : List ℕ → Bool
 isAccepted f = eqb (readFile f .status) 0
 
+abbrev pub sizeOf : Record → Size
+sizeOf r = record { width = r .«picture_width»; height = r .«picture_height» }
+
 -- "neither wider nor taller than its parent, and differ from it in width or height"
-abbrev pub isSmaller : Record → (parent : Record) → Bool
-isSmaller r p =
-    leb (r .«picture_width») (p .«picture_width»)
-    && (leb (r .«picture_height») (p .«picture_height»)
-    && not (eqb (r .«picture_width») (p .«picture_width») && eqb (r .«picture_height») (p .«picture_height»)))
+abbrev pub isSmaller : Size → (parent : Size) → Bool
+isSmaller s p = leb (s .width) (p .width) && (leb (s .height) (p .height) && not (eqb (s .width) (p .width) && eqb (s .height) (p .height)))
 
 -- the entries of a file with tag 4, in file order
 unfoldable pub withTag4 : List Entry → List Entry
@@ -47,7 +48,7 @@ checkThumbnail (suc left) f start e =
     let thumbnail = bytesIn f (e .payload) in
     let offset = start + e .payload .start in
     guard (isAccepted thumbnail) 28 offset >>= λ _.
-    guard (isSmaller (recordIn thumbnail) (recordIn f)) 29 offset >>= λ _.
+    guard (isSmaller (sizeOf (recordIn thumbnail)) (sizeOf (recordIn f))) 29 offset >>= λ _.
     each (checkThumbnail left thumbnail offset) (thumbnails thumbnail)
 
 -- the thumbnails of a file

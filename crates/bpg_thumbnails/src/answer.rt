@@ -1,6 +1,6 @@
 // What the deep check answers. Status 0 is success, else the refusal number.
 ghost use mathlib.Core.Path.{_≡_};
-ghost use Rattle.bpg_thumbnails.specs.Answers.{passed, refused};
+ghost use Rattle.bpg_thumbnails.specs.Calls.{passed, refused};
 
 pub struct Checked {
     pub status: u8,

@@ -5,10 +5,10 @@ use crate::levels::LEVELS_BELOW;
 use crate::levels::check_file;
 use bpg_reader::read;
 ghost use mathlib.Core.Path.{_≡_};
-ghost use Rattle.bpg_thumbnails.specs.Answers.{checkThumbnails};
+ghost use Rattle.bpg_thumbnails.specs.Calls.{checkThumbnails};
 
 // Whether the thumbnails of a file comply, and theirs at every level; or the first refusal, at its offset in this file.
-// Nothing is copied but records: each level holds one record and one reading on the stack, four levels in all.
+// Each file is read once. Nothing is allocated: the stack holds a record for each level, four in all.
 pub fn check_thumbnails(file: &[u8]) -> Checked
     ensures { λ r. ⌜ r ≡ checkThumbnails (now (file .entry)) ⌝ }
 {

@@ -7,11 +7,11 @@ use bpg_format::Entry;
 use bpg_format::Record;
 use bpg_reader::read;
 ghost use mathlib.Core.Path.{_≡_};
-ghost use mathlib.Core.Bool.{not, _&&_};
-ghost use lib.Dec.{eqb, leb};
+ghost use mathlib.Core.Bool.{not};
 ghost use Rattle.bpg_thumbnails.specs.declared.levels.Size.{Size};
-ghost use Rattle.bpg_thumbnails.specs.Thumbnails.{checkEntries};
-ghost use Rattle.bpg_thumbnails.specs.Answers.{checkedOf, checkEntry, isSmallerSize, FileAt, EntryAt};
+ghost use Rattle.bpg_thumbnails.specs.Thumbnails.{isSmaller, checkEntries};
+ghost use Rattle.bpg_thumbnails.specs.Calls.{checkedOf};
+ghost use Rattle.bpg_thumbnails.specs.Answers.{checkEntry, FileAt, EntryAt};
 
 // The outer file is level 1, and level 5 is not entered: levels 2, 3 and 4.
 pub(crate) const LEVELS_BELOW: u8 = 3;
@@ -24,7 +24,7 @@ pub(crate) struct Size {
 
 // Refusal 29: neither wider nor taller than its parent, and not of its size.
 fn is_smaller(size: Size, parent: Size) -> bool
-    ensures { λ r. ⌜ r ≡ isSmallerSize size parent ⌝ }
+    ensures { λ r. ⌜ r ≡ isSmaller size parent ⌝ }
 {
     (size.width <= parent.width)
         & ((size.height <= parent.height)

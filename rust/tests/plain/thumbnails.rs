@@ -28,14 +28,14 @@ pub fn check_thumbnails(file: &[u8]) -> Result<(), Refusal> {
     {
         let start = place.start;
         if level == TOO_DEEP {
-            return refuse(Reason::ThumbnailTooDeep, start);
+            return refuse(Reason::DeepThumbnail, start);
         }
         let Ok(record) = read(&file[place]) else {
             return refuse(Reason::BadThumbnail, start);
         };
         let (width, height) = size(&record);
         if width > parent.0 || height > parent.1 || (width, height) == parent {
-            return refuse(Reason::ThumbnailNotSmaller, start);
+            return refuse(Reason::LargeThumbnail, start);
         }
         push(&mut pending, &record, start, level + 1);
     }
