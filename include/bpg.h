@@ -117,7 +117,10 @@ enum bpg_status {
     BPG_BAD_NAL_LAYER = 23,     /* frames: a layer above 1, layer 1 without alpha, or a VPS or SPS */
     BPG_BAD_DURATION = 24,      /* frames: 0, two with no frame start between, or one with no frame after it */
     BPG_BAD_FRAME_COUNT = 25,   /* frames: a still file without exactly one, an animated one with fewer than two */
-    BPG_BAD_DATA_START = 26     /* data empty, or beginning 00 00 01 or 00 00 00 01 */
+    BPG_BAD_DATA_START = 26,    /* data empty, or beginning 00 00 01 or 00 00 00 01 */
+    BPG_DEEP_THUMBNAIL = 27,    /* thumbnails: one at level 5, the file being level 1 */
+    BPG_BAD_THUMBNAIL = 28,     /* thumbnails: one that is itself refused */
+    BPG_LARGE_THUMBNAIL = 29    /* thumbnails: one wider or taller than its parent, or of its size */
 };
 
 /* Reads a file. Success: status 0, the first 117 numbers are the reading's, the rest of the list is unchanged. A list shorter than 117 is
@@ -142,6 +145,10 @@ uint8_t bpg_frames(const uint8_t *file, size_t file_len, uint16_t *durations, si
 
 /* The same answer without a list, so never 20: how long a list bpg_frames needs. */
 uint8_t bpg_frame_count(const uint8_t *file, size_t file_len, size_t *count, size_t *offset);
+
+/* Checks the thumbnails of a file (entries with tag 4), and theirs at every level. Refusals are those of bpg_read, with their *offset; then in
+ * the order of the file, each thumbnail before its own, 27, 28 or 29, where *offset is that of the thumbnail's payload in file. */
+uint8_t bpg_check_thumbnails(const uint8_t *file, size_t file_len, size_t *offset);
 
 /* Writes the bytes of a NAL unit without its emulation prevention bytes from the start of out; *count is their number, 0 if refused: 22 for
  * a unit that breaks an emulation rule, then 20. */

@@ -60,6 +60,7 @@ extern "C" {
         count: *mut usize,
         offset: *mut usize,
     ) -> u8;
+    fn bpg_check_thumbnails(file: *const u8, file_len: usize, offset: *mut usize) -> u8;
     fn bpg_unescape(
         unit: *const u8,
         unit_len: usize,
@@ -161,6 +162,13 @@ pub fn frame_count(file: &[u8]) -> (u8, usize, usize) {
     let [mut count, mut offset] = [UNSET; 2];
     let status = unsafe { bpg_frame_count(file.as_ptr(), file.len(), &mut count, &mut offset) };
     (status, count, offset)
+}
+
+/// Status and offset.
+pub fn check_thumbnails(file: &[u8]) -> (u8, usize) {
+    let mut offset = UNSET;
+    let status = unsafe { bpg_check_thumbnails(file.as_ptr(), file.len(), &mut offset) };
+    (status, offset)
 }
 
 /// Status and count; on success that many bytes stand at the start of `out`.

@@ -5,6 +5,9 @@ use std::ops::Range;
 /// The most extension entries that a file may have.
 pub const MAX_ENTRIES: usize = 16;
 
+/// The tag of a thumbnail, whose payload is again a file.
+pub const THUMBNAIL: u32 = 4;
+
 /// The tag of the animation control entry, whose payload begins with the loop numbers.
 pub const ANIMATION_CONTROL: u32 = 5;
 

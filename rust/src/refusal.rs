@@ -58,6 +58,9 @@ reasons! {
     24 BadDuration "a frame duration is 0, is the second for its frame, or has no frame after it",
     25 BadFrameCount "a still file has not exactly one frame, or an animated one fewer than two",
     26 BadDataStart "the HEVC data is empty or begins with a start code",
+    27 DeepThumbnail "a thumbnail stands at level 5",
+    28 BadThumbnail "a thumbnail is itself refused",
+    29 LargeThumbnail "a thumbnail is wider or taller than its parent, or of its size",
 }
 
 impl Reason {

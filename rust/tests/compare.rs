@@ -2,8 +2,8 @@
 //! slices a run.
 //!
 //! `BPG_SEED` gives another run; `BPG_FILES`, `BPG_RECORDS`, `BPG_FRAMED` (files whose data is made of units,
-//! for the calls on frames) and `BPG_SLICES` (for emulation prevention) another number of cases. A difference
-//! fails the test and prints the case and both answers.
+//! for the calls on frames), `BPG_SLICES` (for emulation prevention) and `BPG_NESTED` (files with thumbnails)
+//! another number of cases. A difference fails the test and prints the case and both answers.
 
 mod cases;
 mod held;
@@ -12,8 +12,8 @@ mod plain;
 use std::env;
 use std::thread;
 
-use cases::{large, records, Random};
-use held::{Buffers, Cases, Table};
+use cases::{large, nested, records, Random};
+use held::{Buffers, Cases, Statuses, Table};
 
 const THREADS: u64 = 2;
 
@@ -43,6 +43,20 @@ fn the_library_agrees_with_plain_rust() {
     });
     println!("{table}");
     let rare = table.rare(100);
+    assert!(rare.is_empty(), "met fewer than 100 times: {rare:?}");
+}
+
+#[test]
+fn the_deep_check_agrees_with_plain_rust() {
+    let seed = setting("BPG_SEED", 20_150_425);
+    let files = setting("BPG_NESTED", 300_000);
+    let mut random = Random::new(seed.wrapping_add(THREADS + 1));
+    let mut statuses = Statuses::default();
+    for _ in 0..files {
+        held::thumbnails(&nested::file(&mut random), &mut statuses);
+    }
+    println!("{statuses}\n{files} files with thumbnails");
+    let rare = statuses.rare(100);
     assert!(rare.is_empty(), "met fewer than 100 times: {rare:?}");
 }
 

@@ -1,5 +1,6 @@
 // The library for C and Rust: numbers and slices alone. include/bpg.h declares these functions for C.
 mod frames;
+mod thumbnails;
 
 use bpg_reader::EntryAt;
 ghost use mathlib.Core.Path.{_≡_};

@@ -6,6 +6,7 @@ pub mod frames;
 pub mod header;
 pub mod large;
 pub mod model;
+pub mod nested;
 pub mod random;
 pub mod records;
 pub mod sei;

@@ -6,6 +6,7 @@ mod escape;
 mod frames;
 mod read;
 mod table;
+mod thumbnails;
 mod write;
 
 pub use buffers::Buffers;
@@ -14,6 +15,7 @@ pub use escape::escape;
 pub use frames::frames;
 pub use read::read;
 pub use table::{Call, Cases, Table};
+pub use thumbnails::{thumbnails, Statuses};
 pub use write::{write, write_in};
 
 use bpg::Refusal;

@@ -15,6 +15,7 @@ mod marks;
 mod nal;
 mod reader;
 mod sei;
+mod thumbnails;
 mod writer;
 
 pub use canonical::canonicalize;
@@ -22,6 +23,7 @@ pub use escape::{escape, unescape};
 pub use frames::{frame_count, frames};
 pub use list::{read_list, record_of, NUMBERS, RECORD};
 pub use reader::read;
+pub use thumbnails::check_thumbnails;
 pub use writer::{write, write_list};
 
 use bpg::{Reason, Refusal};
