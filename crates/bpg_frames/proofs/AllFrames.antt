@@ -11,14 +11,14 @@ use Rattle.bpg_codec.specs.Lawful.{All, Byte}
 use Rattle.bpg_codec.proofs.Outcome.{ok-injective, error-not-ok}
 use Rattle.bpg_codec.proofs.Select.{select-true, select-false}
 use Rattle.bpg_codec.proofs.Tokens.{all-take, all-drop}
-use Rattle.bpg_format.specs.Parts.{dataOf}
+use Rattle.bpg_format.specs.Parts.{recordIn, dataOf}
 use Rattle.bpg_nal_units.specs.Units.{Nal}
 use Rattle.bpg_nal_units.proofs.Cases.{by-test, by-equal}
 use Rattle.bpg_nal_units.proofs.Whole.{units-bytes}
 use Rattle.bpg_frames.specs.declared.wait.Waiting.{Waiting}
 use Rattle.bpg_frames.specs.Units.{Said, isPrefixSei, kindSays}
 use Rattle.bpg_frames.specs.Frames.{nothing, setBy, lasting, framesFrom, enough}
-use Rattle.bpg_frames.specs.Calls.{recordIn, dataAt, alphaIn, unitsIn, framesOf, frameCount}
+use Rattle.bpg_frames.specs.Calls.{dataAt, alphaIn, unitsIn, framesOf, frameCount}
 use Rattle.bpg_frames.specs.Requirements.{headerIn, frameStarts, durations}
 use Rattle.bpg_frames.proofs.SaidLaws.{said-starts, said-none, said-small}
 use Rattle.bpg_frames.proofs.UnitLaws.{unit-passed, judged-passed}

@@ -10,13 +10,13 @@ use lib.ListN.{length, take, drop, getD}
 use Rattle.bpg_codec.specs.Select.{select}
 use Rattle.bpg_codec.specs.Lawful.{All, Byte}
 use Rattle.bpg_format.specs.Records.{readFile}
-use Rattle.bpg_format.specs.Parts.{dataOf}
+use Rattle.bpg_format.specs.Parts.{recordIn, dataOf}
 use Rattle.bpg_nal_units.specs.declared.nal_header.NalHeader.{NalHeader}
 use Rattle.bpg_nal_units.specs.Headers.{headerOf}
 use Rattle.bpg_nal_units.specs.Units.{Nal}
 use Rattle.bpg_nal_units.specs.Whole.{nth, Whole}
 use Rattle.bpg_frames.specs.Units.{isSlice, isPrefixSei}
-use Rattle.bpg_frames.specs.Calls.{recordIn, dataAt, unitsIn, frameCount, framesCall, framesList}
+use Rattle.bpg_frames.specs.Calls.{dataAt, unitsIn, frameCount, framesCall, framesList}
 use Rattle.bpg_frames.specs.Answers.{refusedFrames}
 
 abbrev pub headerIn : Nal → NalHeader

@@ -8,14 +8,12 @@ use Rattle.bpg_codec.specs.Outcome.{Outcome, ok, error, _>>=_, guard}
 use Rattle.bpg_format.specs.declared.record.Entry.{Entry}
 use Rattle.bpg_format.specs.declared.record.Record.{Record}
 use Rattle.bpg_format.specs.Records.{bytesIn, usedEntries, readFile}
+use Rattle.bpg_format.specs.Parts.{recordIn}
 use Rattle.bpg_thumbnails.specs.declared.levels.Size.{Size}
 
 -- "The outer file is level 1; level 5 is not entered": levels 2, 3 and 4 are
 abbrev pub levelsBelow : ℕ
 levelsBelow = 3
-
-abbrev pub recordIn : List ℕ → Record
-recordIn f = readFile f .«record»
 
 -- "accepted by the plain reading"
 abbrev pub isAccepted : List ℕ → Bool
