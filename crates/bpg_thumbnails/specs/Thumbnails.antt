@@ -26,7 +26,7 @@ sizeOf r = record { width = r .«picture_width»; height = r .«picture_height»
 abbrev pub isSmaller : Size → (parent : Size) → Bool
 isSmaller s p = leb (s .width) (p .width) && (leb (s .height) (p .height) && not (eqb (s .width) (p .width) && eqb (s .height) (p .height)))
 
--- the entries of a file with tag 4, in file order
+-- the entries of a file with tag 4, its thumbnails (source document 001, "4: Thumbnail"), in file order
 unfoldable pub withTag4 : List Entry → List Entry
 withTag4 [] = []
 withTag4 (e ∷ es) = select (eqb (e .tag) 4) (e ∷ withTag4 es) (withTag4 es)
@@ -39,7 +39,8 @@ unfoldable pub each : {A : Type 0} → (A → Outcome (Unit {0})) → List A →
 each check [] = ok tt
 each check (x ∷ xs) = check x >>= λ _. each check xs
 
--- a thumbnail, an entry of the file f, which stands at `start` in the outer file; `left` levels may be entered, its own among them
+-- a thumbnail, an entry of the file f, which stands at `start` in the outer file; `left` levels may be entered, its own among them: "27 level 5
+-- reached, 28 thumbnail itself refused, 29 not smaller, at the payload's place in the outer file"
 unfoldable pub checkThumbnail : (left : ℕ) (f : List ℕ) (start : ℕ) → Entry → Outcome (Unit {0})
 checkThumbnail zero f start e = error 27 (start + e .payload .start)
 checkThumbnail (suc left) f start e =
