@@ -193,14 +193,15 @@ module _ (f list : List ℕ) (s : Survey) (w : Surveyed f s) where
       start-at : framesAt f (s .start .0) (s .alpha) ≡ ok ds
       start-at = at-data (s .start .0) (s .alpha) (w .start z) (w .alpha z)
 
-      pub list-storable : Storable f (s .start .0) (s .alpha) list
+      pub list-storable : Storable f (s .start .0) (s .alpha) (s .count) list
       list-storable =
           let q = frames-parts f ds o in
           record {
             small = data-small f bytes (q .0);
             start = omega (arith, w .start z, data-start f bytes (q .0));
             all = rw start-at;
-            room = rw start-at (omega (arith, count-is));
+            counted = rw start-at count-is;
+            room = h;
           }
 
       pub list-stored : (after : List ℕ) → after ≡ durationsAt f (s .start .0) (s .alpha) ++ drop (length (durationsAt f (s .start .0) (s .alpha))) list
