@@ -5,6 +5,7 @@ use lib.Count.{leadingZeros}
 use Rattle.bpg_codec.specs.Select.{select}
 use Rattle.bpg_codec.specs.Lawful.{All}
 use Rattle.bpg_codec.specs.Bits.{bits, unpack, pack, padded}
+use Rattle.bpg_codec.proofs.Tokens.{all-append}
 use Rattle.bpg_ue7.specs.Ue7.{groups, ue7Bytes, ue7Rest, ue7Decode}
 use Rattle.bpg_bits.specs.BitNumbers.{prefixDecode, expGolombBits}
 use Rattle.bpg_format.specs.Syntax.{extensionPart, headerBits, headerBytes, headersAndData, dataLength, fileOf}
@@ -16,7 +17,7 @@ use Rattle.bpg_format.specs.Write.{rangesInSource, unusedZero, absentZer
 use Rattle.bpg_format.specs.Write.{checkContent, checkRecord, sizedFile, writeOutcome, writeFile, writeBuffer}
 use Rattle.bpg_format.specs.Pictures.{pictureOf, withChoices, canonicalContent, canonicalBytes, canonicalOutcome, canonicalFile, canonicalBuffer}
 use Rattle.bpg_format.specs.Requirements.{bytes}
-use Rattle.bpg_format.specs.Examples.{fileA, fileB, fileC, fileD, readingA, Holds, examples}
+use Rattle.bpg_format.specs.Examples.{fileA, fileB, fileC, fileD, readingA, Holds, deskExamples, requestExamples, examples}
 
 pub record Answers : Type 0 where
   pub a-reads : readFile fileA ≡ readingA
@@ -36,7 +37,7 @@ pub record Answers : Type 0 where
   pub c-canonical : canonicalFile fileC (replicate 22 0) .status ≡ 0
   pub c-count : canonicalFile fileC (replicate 22 0) .count ≡ 22
 
-computed : All Holds examples × Answers
+computed : All Holds deskExamples × All Holds requestExamples × Answers
 unfolding select bits unpack pack padded groups ue7Bytes ue7Rest ue7Decode leadingZeros prefixDecode expGolombBits extensionPart headerBits
     headerBytes headersAndData dataLength fileOf noForbiddenBit pcmAllowed hevcAllowed dataAllowed readFlags readHead readAnimation animationOf
     readEntry readEntries readBlock readFields readHeader readAlphaHeader readBody readContent extensionLengthStart blockStart dataStart
@@ -44,7 +45,8 @@ unfolding select bits unpack pack padded groups ue7Bytes ue7Rest ue7Decode leadi
     absentZero headerZero consistent checkAnimation checkEntries fieldsCoded checkHeader checkContent sizedFile checkRecord writeOutcome
     writeFile writeBuffer contentOf entryOf canonicalFile
 computed = (
-  (refl, (refl, (refl, (refl, (refl, (refl, (refl, (refl, (refl, (refl, (refl, (refl, ((refl, refl), ((refl, refl), (refl, (refl, (refl, (refl, (refl, (refl, tt)))))))))))))))))))),
+  (refl, (refl, (refl, (refl, (refl, (refl, (refl, (refl, (refl, (refl, (refl, (refl, ((refl, refl), ((refl, refl), (refl, (refl, tt)))))))))))))))),
+  (refl, (refl, (refl, (refl, (refl, (refl, (refl, (refl, tt)))))))),
   record {
     a-reads = refl;
     a-data-length = refl;
@@ -66,7 +68,7 @@ computed = (
 )
 
 pub hold : All Holds examples
-hold = computed .0
+hold = all-append Holds deskExamples requestExamples (computed .0) (computed .1)
 
 pub answers : Answers
-answers = computed .1
+answers = computed .2

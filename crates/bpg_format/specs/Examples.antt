@@ -1,5 +1,5 @@
--- Document 01's worked examples that are to be proved ("The desk's examples"), and those of refusal 26 (request 2/13): one table. `proofs/Examples` proves the one claim that each
--- holds, by computation.
+-- Document 01's worked examples that are to be proved ("The desk's examples"), and those of requests 2/13 (refusal 26) and 3/13 (sizes): one
+-- table. `proofs/Examples` proves the one claim that each holds, by computation.
 use mathlib.Core.Path.{_≡_}
 use mathlib.Core.Bool.{Bool, true, false}
 use mathlib.Core.List.{List, [], _∷_, _++_}
@@ -21,15 +21,19 @@ use Rattle.bpg_format.specs.Pictures.{canonicalFile, canonicalBuffer}
 abbrev pub fileStart : List ℕ
 fileStart = 0x42 ∷ 0x50 ∷ 0x47 ∷ 0xFB ∷ 0x20 ∷ []
 
+-- A's header, with other data
+abbrev pub hevcWith : (hevcData : List ℕ) → List ℕ
+hevcWith l = 0x03 ∷ 0x92 ∷ 0x4D ∷ 0x00 ∷ l
+
 abbrev pub hevc : List ℕ
-hevc = 0x03 ∷ 0x92 ∷ 0x4D ∷ 0x00 ∷ 0x26 ∷ 0x01 ∷ []
+hevc = hevcWith (0x26 ∷ 0x01 ∷ [])
 
 -- A's head and header, with other data
 abbrev pub fileWith : (hevcData : List ℕ) → List ℕ
-fileWith l = fileStart ++ (0x00 ∷ 0x08 ∷ 0x84 ∷ 0x1E ∷ 0x00 ∷ 0x03 ∷ 0x92 ∷ 0x4D ∷ 0x00 ∷ l)
+fileWith l = fileStart ++ (0x00 ∷ 0x08 ∷ 0x84 ∷ 0x1E ∷ 0x00 ∷ hevcWith l)
 
 abbrev pub fileA : List ℕ
-fileA = fileStart ++ (0x00 ∷ 0x08 ∷ 0x84 ∷ 0x1E ∷ 0x00 ∷ hevc)
+fileA = fileWith (0x26 ∷ 0x01 ∷ [])
 
 abbrev pub fileB : List ℕ
 fileB = fileStart ++ (0x00 ∷ 0x08 ∷ 0x84 ∷ 0x1E ∷ 0x06 ∷ hevc)
@@ -48,6 +52,14 @@ fileCShort = fileStart ++ (0x09 ∷ 0x08 ∷ 0x84 ∷ 0x1E ∷ 0x00 ∷ 0x04 ∷
 -- A with two entries, tags 1 and 2, without bytes: not document 01's
 abbrev pub fileD : List ℕ
 fileD = fileStart ++ (0x08 ∷ 0x08 ∷ 0x84 ∷ 0x1E ∷ 0x00 ∷ 0x04 ∷ 0x01 ∷ 0x00 ∷ 0x02 ∷ 0x00 ∷ hevc)
+
+-- 8 by 8, with MinCb and Ctb 6 and PCM: MinPcm 5, "the smaller of MinCb and 5" (request 3/13)
+abbrev pub filePcm5 : List ℕ
+filePcm5 = fileStart ++ (0x00 ∷ 0x08 ∷ 0x08 ∷ 0x00 ∷ 0x04 ∷ 0x26 ∷ 0x4A ∷ 0xEE ∷ 0xE0 ∷ 0x26 ∷ 0x01 ∷ [])
+
+-- 8 by 8, with MinCb 3, Ctb 6 and MaxTb 6: above "the smaller of Ctb and 5" (request 3/13)
+abbrev pub fileMaxTb6 : List ℕ
+fileMaxTb6 = fileStart ++ (0x00 ∷ 0x08 ∷ 0x08 ∷ 0x00 ∷ 0x03 ∷ 0x92 ∷ 0x58 ∷ 0x00 ∷ 0x26 ∷ 0x01 ∷ [])
 
 -- ---- their readings
 
@@ -117,6 +129,7 @@ pub data Example : Type 0 where
   -- ue(v) at offset 0
   code : List Bool → Outcome (ℕ × ℕ) → Example
   reads : List ℕ → Reading → Example
+  accepts : List ℕ → Example
   -- the canonical form, into a buffer of just its size: the answer and the buffer
   canonicalizes : List ℕ → List ℕ → Example
 
@@ -124,12 +137,14 @@ abbrev pub Holds : Example → Type 0
 Holds (number n l o) = located (ue7Decode n 0 l) ≡ o
 Holds (code l o) = located (expGolombDecode 0 0 l) ≡ o
 Holds (reads f r) = readFile f ≡ r
+Holds (accepts f) = readFile f .status ≡ 0
 Holds (canonicalizes f g) =
     let out : List ℕ = replicate (length g) 0 in
     (canonicalFile f out ≡ record { status = 0; offset = 0; count = length g }) × (canonicalBuffer f out ≡ g)
 
-abbrev pub examples : List Example
-examples =
+-- document 01's
+abbrev pub deskExamples : List Example
+deskExamples =
     number 32 (0x08 ∷ []) (ok (8, 1))
     ∷ number 32 (0x84 ∷ 0x1E ∷ []) (ok (542, 2))
     ∷ number 32 (0xAC ∷ 0xBE ∷ 0x17 ∷ []) (ok (728855, 3))
@@ -146,8 +161,20 @@ examples =
     ∷ canonicalizes fileAExtended fileA
     ∷ reads fileC readingC
     ∷ reads fileCShort (refusedReading 2 15)
-    ∷ reads (fileWith []) (refusedReading 26 14)
+    ∷ []
+
+-- those of requests 2/13 and 3/13
+abbrev pub requestExamples : List Example
+requestExamples =
+    reads (fileWith []) (refusedReading 26 14)
     ∷ reads (fileWith (0x00 ∷ 0x00 ∷ 0x01 ∷ 0x26 ∷ [])) (refusedReading 26 14)
     ∷ reads (fileWith (0x00 ∷ 0x00 ∷ 0x00 ∷ 0x01 ∷ [])) (refusedReading 26 14)
     ∷ reads (fileWith (0x00 ∷ 0x00 ∷ [])) readingA
+    ∷ accepts (fileWith (0x00 ∷ 0x00 ∷ 0x00 ∷ []))
+    ∷ accepts (fileWith (0x00 ∷ 0x00 ∷ 0x00 ∷ 0x00 ∷ 0x01 ∷ []))
+    ∷ accepts filePcm5
+    ∷ reads fileMaxTb6 (refusedReading 16 9)
     ∷ []
+
+abbrev pub examples : List Example
+examples = deskExamples ++ requestExamples

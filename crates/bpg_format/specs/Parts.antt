@@ -9,15 +9,18 @@ use Rattle.bpg_format.specs.declared.record.Record.{Record}
 use Rattle.bpg_format.specs.Zero.{range, zeroEntry}
 use Rattle.bpg_format.specs.Records.{bytesIn, usedEntries, readFile}
 
+abbrev pub recordIn : List ℕ → Record
+recordIn f = readFile f .«record»
+
 -- entry k of a file, k from 0
 unfoldable pub entryOf : List ℕ → ℕ → Entry
-entryOf f k = getD (usedEntries (readFile f .«record»)) k zeroEntry
+entryOf f k = getD (usedEntries (recordIn f)) k zeroEntry
 
 unfoldable pub payloadOf : List ℕ → ℕ → List ℕ
 payloadOf f k = bytesIn f (entryOf f k .payload)
 
 unfoldable pub dataOf : List ℕ → List ℕ
-dataOf f = bytesIn f (readFile f .«record» .«data»)
+dataOf f = bytesIn f (recordIn f .«data»)
 
 -- ---- payloads and data lie in order
 

@@ -16,14 +16,14 @@ use Rattle.bpg_codec.proofs.Refusals.{Refuses, refuses-ok, refuses-error, refus
 use Rattle.bpg_codec.proofs.Select.{is-true}
 use Rattle.bpg_format.specs.declared.answer.Reading.{Reading}
 use Rattle.bpg_format.specs.Records.{readFile}
-use Rattle.bpg_format.specs.Parts.{dataOf, rangeEnd}
+use Rattle.bpg_format.specs.Parts.{recordIn, dataOf, rangeEnd}
 use Rattle.bpg_format.specs.Write.{writtenBuffer}
 use Rattle.bpg_format.proofs.Requirements.{reading, ranges}
 use Rattle.bpg_nal_units.proofs.Cases.{by-equal}
 use Rattle.bpg_frames.specs.declared.count.Frames.{Frames}
 use Rattle.bpg_frames.specs.declared.calls.Survey.{Survey}
 use Rattle.bpg_frames.specs.Frames.{nothing, framesFrom, enough}
-use Rattle.bpg_frames.specs.Calls.{recordIn, dataAt, alphaIn, unitsIn, framesOf, framesAnswer, frameCount, framesCall, framesList}
+use Rattle.bpg_frames.specs.Calls.{dataAt, alphaIn, unitsIn, framesOf, framesAnswer, frameCount, framesCall, framesList}
 use Rattle.bpg_frames.specs.Answers.{refusedFrames, framesAt, durationsAt, Storable, Surveyed}
 use Rattle.bpg_frames.proofs.Refusals.{frames-refuse}
 
@@ -193,14 +193,15 @@ module _ (f list : List ℕ) (s : Survey) (w : Surveyed f s) where
       start-at : framesAt f (s .start .0) (s .alpha) ≡ ok ds
       start-at = at-data (s .start .0) (s .alpha) (w .start z) (w .alpha z)
 
-      pub list-storable : Storable f (s .start .0) (s .alpha) list
+      pub list-storable : Storable f (s .start .0) (s .alpha) (s .count) list
       list-storable =
           let q = frames-parts f ds o in
           record {
             small = data-small f bytes (q .0);
             start = omega (arith, w .start z, data-start f bytes (q .0));
             all = rw start-at;
-            room = rw start-at (omega (arith, count-is));
+            counted = rw start-at count-is;
+            room = h;
           }
 
       pub list-stored : (after : List ℕ) → after ≡ durationsAt f (s .start .0) (s .alpha) ++ drop (length (durationsAt f (s .start .0) (s .alpha))) list

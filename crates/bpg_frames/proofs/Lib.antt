@@ -2,9 +2,11 @@
 pub mod UnitLaws
 pub mod Refusals
 pub mod FrameLaws
-pub mod PassLaws
-pub mod CallLaws
 pub mod SaidLaws
+pub mod Growth
+pub mod CountLaws
+pub mod StoreLaws
+pub mod CallLaws
 pub mod AllFrames
 pub mod RefusedAt
 pub mod Requirements

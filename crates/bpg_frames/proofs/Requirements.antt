@@ -13,12 +13,12 @@ use Rattle.bpg_codec.specs.Outcome.{Outcome, ok, error, _>>=_, guard}
 use Rattle.bpg_codec.specs.Lawful.{All}
 use Rattle.bpg_codec.proofs.Select.{select-true, select-false}
 use Rattle.bpg_format.specs.Records.{readFile}
-use Rattle.bpg_format.specs.Parts.{dataOf}
+use Rattle.bpg_format.specs.Parts.{recordIn, dataOf}
 use Rattle.bpg_format.specs.Write.{writtenBuffer}
 use Rattle.bpg_nal_units.proofs.Whole.{whole}
 use Rattle.bpg_frames.specs.declared.count.Frames.{Frames}
 use Rattle.bpg_frames.specs.Frames.{nothing, framesFrom, enough}
-use Rattle.bpg_frames.specs.Calls.{recordIn, dataAt, alphaIn, unitsIn, framesOf, framesAnswer, frameCount, listOutcome, framesCall, framesList}
+use Rattle.bpg_frames.specs.Calls.{dataAt, alphaIn, unitsIn, framesOf, framesAnswer, frameCount, listOutcome, framesCall, framesList}
 use Rattle.bpg_frames.specs.Answers.{refusedFrames}
 use Rattle.bpg_frames.specs.Requirements.{Units, Count, durations, Durations, Refusals}
 use Rattle.bpg_frames.proofs.AllFrames.{count-is, starts-is, all-in-range, all-ones, enough-is}

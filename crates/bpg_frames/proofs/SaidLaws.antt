@@ -5,9 +5,11 @@ use mathlib.Core.List.{List, []}
 use Prim.Native.Nat.{ℕ, _≤_}
 use lib.Dec.{leb}
 use lib.ListN.{length, drop, getD}
+use borrow.Author.Tests.{leb-true}
 use Rattle.bpg_codec.specs.Outcome.{ok}
 use Rattle.bpg_codec.specs.Lawful.{All, Byte}
 use Rattle.bpg_codec.proofs.Outcome.{unbind, unguard, ok-injective}
+use Rattle.bpg_codec.proofs.Select.{is-true}
 use Rattle.bpg_codec.proofs.Tokens.{all-drop}
 use Rattle.bpg_nal_units.specs.declared.nal_header.NalHeader.{NalHeader}
 use Rattle.bpg_nal_units.proofs.Cases.{by-test}
@@ -16,17 +18,16 @@ use Rattle.bpg_nal_escape.proofs.WalkLaws.{un-all}
 use Rattle.bpg_sei.specs.Messages.{durationsIn}
 use Rattle.bpg_sei.proofs.Range.{durations-small}
 use Rattle.bpg_frames.specs.Units.{Said, isSlice, isPrefixSei, allowedUnit, sliceSays, seiSays, otherSays, kindSays}
-use Rattle.bpg_frames.specs.Requirements.{durations}
 use Rattle.bpg_frames.proofs.UnitLaws.{kind-slice, kind-sei, kind-other}
 
 module _ (alpha : Bool) (u : List ℕ) (h : NalHeader) (x : Said) (e : kindSays alpha u h ≡ ok x) where
   -- a slice
-  slice-said : isSlice h ≡ true → (x .starts ≡ leb 128 (getD u 2 0)) × (x .durations ≡ [])
+  slice-said : isSlice h ≡ true → (x .starts ≡ leb 128 (getD u 2 0)) × (x .durations ≡ []) × (3 ≤ length u)
   unfolding sliceSays
   slice-said s =
       unguard (leb 3 (length u)) 22 0 _ (sym (kind-slice alpha u h s) ∙ e) λ a b.
       let q = ok-injective b in
-      (ap (λ (y : Said). y .starts) (sym q), ap (λ (y : Said). y .durations) (sym q))
+      (ap (λ (y : Said). y .starts) (sym q), ap (λ (y : Said). y .durations) (sym q), leb-true 3 (length u) (is-true _ a))
 
   module _ (n : isSlice h ≡ false) where
     sei-said : isPrefixSei h ≡ true → (x .starts ≡ false) × (durationsIn (drop 2 (unescape u)) ≡ ok (x .durations))
@@ -49,6 +50,10 @@ module _ (alpha : Bool) (u : List ℕ) (h : NalHeader) (x : Said) (e : kindSays 
       by-test (isSlice h)
       (λ s. slice-said s .0 ∙ rw s)
       (λ n. by-test (isPrefixSei h) (λ s. sei-said n s .0) (λ s. other-said n s .0) ∙ rw n)
+
+  -- a slice has a byte after its header
+  pub said-long : isSlice h ≡ true → 3 ≤ length u
+  said-long s = slice-said s .2
 
   -- durations are set by prefix SEI alone
   pub said-none : isPrefixSei h ≡ false → x .durations ≡ []

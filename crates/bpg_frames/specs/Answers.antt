@@ -52,12 +52,13 @@ valueOf (error s o) = []
 abbrev pub durationsAt : (f : List ℕ) (p : ℕ) (alpha : Bool) → List ℕ
 durationsAt f p alpha = valueOf (framesAt f p alpha)
 
--- what the second pass goes by: all units were judged, and the list has room
-pub record Storable (f : List ℕ) (p : ℕ) (alpha : Bool) (list : List ℕ) : Type 0 where
+-- what the second pass goes by: all units were judged and the frames counted, and the list has room
+pub record Storable (f : List ℕ) (p : ℕ) (alpha : Bool) (count : ℕ) (list : List ℕ) : Type 0 where
   pub small : length f < 2 ^ 32
   pub start : p ≤ length f
   pub all : framesAt f p alpha ≡ ok (durationsAt f p alpha)
-  pub room : length (durationsAt f p alpha) ≤ length list
+  pub counted : count ≡ length (durationsAt f p alpha)
+  pub room : count ≤ length list
 
 -- ---- a file before anything is stored
 

@@ -5,24 +5,20 @@ use Prim.Native.Nat.{ℕ}
 use lib.Dec.{eqb, leb}
 use lib.ListN.{length}
 use Rattle.bpg_codec.specs.Outcome.{Outcome, ok, error, _>>=_, guard}
-use Rattle.bpg_format.specs.declared.record.Record.{Record}
 use Rattle.bpg_format.specs.Records.{readFile}
-use Rattle.bpg_format.specs.Parts.{dataOf}
+use Rattle.bpg_format.specs.Parts.{recordIn, dataOf}
 use Rattle.bpg_format.specs.Write.{writtenBuffer}
 use Rattle.bpg_nal_units.specs.Units.{Nal, units}
 use Rattle.bpg_frames.specs.declared.count.Frames.{Frames}
 use Rattle.bpg_frames.specs.Frames.{nothing, framesFrom, enough}
 
 module _ (f : List ℕ) where
-  abbrev pub recordIn : Record
-  recordIn = readFile f .«record»
-
   -- the first data byte
   abbrev pub dataAt : ℕ
-  dataAt = recordIn .«data» .start
+  dataAt = recordIn f .«data» .start
 
   abbrev pub alphaIn : Bool
-  alphaIn = recordIn .«alpha1_flag» || recordIn .«alpha2_flag»
+  alphaIn = recordIn f .«alpha1_flag» || recordIn f .«alpha2_flag»
 
   abbrev pub unitsIn : List Nal
   unitsIn = units dataAt (dataOf f)
@@ -32,7 +28,7 @@ module _ (f : List ℕ) where
   framesOf =
       guard (eqb (readFile f .status) 0) (readFile f .status) (readFile f .offset) >>= λ _.
       framesFrom alphaIn unitsIn nothing [] >>= λ ds.
-      guard (enough (recordIn .«animation_flag») (length ds)) 25 dataAt >>= λ _.
+      guard (enough (recordIn f .«animation_flag») (length ds)) 25 dataAt >>= λ _.
       ok ds
 
 abbrev pub framesAnswer : Outcome (List ℕ) → Frames

@@ -1,34 +1,30 @@
 -- Request 1/13, in its own words and as types over the definitions that the calls' contracts cite. `proofs/Requirements` proves them.
 -- Undoing and redoing are in `bpg_nal_escape/specs/RoundTrips`.
 use mathlib.Core.Path.{_≡_}
-use mathlib.Core.Bool.{Bool, true, false, _&&_}
+use mathlib.Core.Bool.{true, false}
 use mathlib.Core.List.{List, [], _∷_}
 use mathlib.Core.Logic.{_⊎_, _≢_}
 use Prim.Native.Nat.{ℕ, suc, _≤_, _<_}
-use lib.Dec.{leb}
 use lib.ListN.{length, take, drop, getD}
 use Rattle.bpg_codec.specs.Select.{select}
 use Rattle.bpg_codec.specs.Lawful.{All, Byte}
 use Rattle.bpg_format.specs.Records.{readFile}
-use Rattle.bpg_format.specs.Parts.{dataOf}
+use Rattle.bpg_format.specs.Parts.{recordIn, dataOf}
 use Rattle.bpg_nal_units.specs.declared.nal_header.NalHeader.{NalHeader}
 use Rattle.bpg_nal_units.specs.Headers.{headerOf}
 use Rattle.bpg_nal_units.specs.Units.{Nal}
 use Rattle.bpg_nal_units.specs.Whole.{nth, Whole}
-use Rattle.bpg_frames.specs.Units.{isSlice, isPrefixSei}
-use Rattle.bpg_frames.specs.Calls.{recordIn, dataAt, unitsIn, frameCount, framesCall, framesList}
+use Rattle.bpg_frames.specs.Units.{isPrefixSei, startsFrame}
+use Rattle.bpg_frames.specs.Calls.{dataAt, unitsIn, frameCount, framesCall, framesList}
 use Rattle.bpg_frames.specs.Answers.{refusedFrames}
 
 abbrev pub headerIn : Nal → NalHeader
 headerIn u = headerOf (getD (u .bytes) 0 0) (getD (u .bytes) 1 0)
 
--- "A frame starts at a slice unit (types 0 to 31) of layer 0 whose first bit after the header is 1."
-abbrev pub startsFrame : Nal → Bool
-startsFrame u = isSlice (headerIn u) && leb 128 (getD (u .bytes) 2 0)
-
+-- at how many units a frame starts
 unfoldable pub frameStarts : List Nal → ℕ
 frameStarts [] = 0
-frameStarts (u ∷ us) = select (startsFrame u) (suc (frameStarts us)) (frameStarts us)
+frameStarts (u ∷ us) = select (startsFrame (u .bytes)) (suc (frameStarts us)) (frameStarts us)
 
 -- "From an accepted file, cut the HEVC data into NAL units at 00 00 01; the first has no start code, and zero bytes before a start code or
 -- at the end of the data belong to no unit."

@@ -16,9 +16,13 @@ pub record Said : Type 0 where
   pub starts : Bool
   pub durations : List ℕ
 
--- "A frame starts at a slice unit (types 0 to 31) of layer 0 whose first bit after the header is 1"
+-- "a slice unit (types 0 to 31) of layer 0"
 abbrev pub isSlice : NalHeader → Bool
 isSlice h = eqb (h .«nuh_layer_id») 0 && ltb (h .«nal_unit_type») 32
+
+-- "A frame starts at a slice unit (types 0 to 31) of layer 0 whose first bit after the header is 1"
+abbrev pub startsFrame : List ℕ → Bool
+startsFrame u = isSlice (headerOf (getD u 0 0) (getD u 1 0)) && leb 128 (getD u 2 0)
 
 -- 22: "a layer 0 slice with nothing after its header"
 unfoldable pub sliceSays : List ℕ → Outcome Said

@@ -92,7 +92,7 @@ pub fn frames(file: &[u8], durations: &mut [u16]) -> Frames
     if durations.len() < survey.count {
         return refused(20, 0);
     }
-    store_durations(file, survey.start, survey.alpha, durations);
+    store_durations(file, survey.start, survey.alpha, survey.count, durations);
     Frames {
         status: 0,
         offset: 0,

@@ -1,11 +1,12 @@
 // What a unit says of frames, by its kind: a slice, a prefix SEI, or another.
+use bpg_bytes::byte_at;
 use bpg_nal_units::NalHeader;
 use bpg_nal_units::header;
 ghost use mathlib.Core.Path.{_≡_};
 ghost use Prim.Native.Nat.{_≤_};
 ghost use lib.ListN.{length, getD};
 ghost use Rattle.bpg_nal_units.specs.Headers.{headerOf};
-ghost use Rattle.bpg_frames.specs.Units.{isSlice, isPrefixSei, allowedUnit, sliceSays, seiSays, kindSays};
+ghost use Rattle.bpg_frames.specs.Units.{isSlice, isPrefixSei, startsFrame, allowedUnit, sliceSays, seiSays, kindSays};
 ghost use Rattle.bpg_frames.specs.Answers.{verdictOf, refusedBy};
 
 // A refusal's status, 0 for none; whether a frame starts; how many durations are set, and the last.
@@ -45,6 +46,14 @@ fn is_allowed(header: NalHeader, alpha: bool) -> bool
 {
     ((header.nuh_layer_id == 0) | ((header.nuh_layer_id == 1) & alpha))
         & ((header.nal_unit_type != 32) & (header.nal_unit_type != 33))
+}
+
+// Whether a frame starts at the unit that these bytes begin with. A unit that passes is long enough for this, so where it ends is not asked.
+pub(crate) fn starts_frame(bytes: &[u8]) -> bool
+    ensures { λ r. ⌜ r ≡ startsFrame (now (bytes .entry)) ⌝ }
+{
+    let header = header(byte_at(bytes, 0), byte_at(bytes, 1));
+    is_slice(header) & (128 <= byte_at(bytes, 2))
 }
 
 // A slice of layer 0: the first bit after its header is 1 where a frame starts.

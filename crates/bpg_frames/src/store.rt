@@ -1,4 +1,5 @@
 // The second pass over data that was judged: the durations are stored.
+use crate::kind::starts_frame;
 use crate::kind::verdict_on;
 use crate::wait::nothing_waits;
 use crate::wait::shown;
@@ -27,23 +28,31 @@ fn put(durations: &mut [u16], at: usize, starts: bool, pending: u16) -> usize
     at + 1
 }
 
-// The durations of the frames of data whose units were all judged, from the start of `durations`, which has room for them.
-pub(crate) fn store_durations(file: &[u8], data: BytePos, alpha: bool, durations: &mut [u16])
-    requires { ⌜ Storable (now file) («data» .0) alpha (now durations) ⌝ }
+// The durations of the `count` frames of data whose units were all judged, from the start of `durations`, which has room for them. The unit that the
+// last frame starts at is not searched for its end.
+pub(crate) fn store_durations(
+    file: &[u8],
+    data: BytePos,
+    alpha: bool,
+    count: usize,
+    durations: &mut [u16],
+)
+    requires { ⌜ Storable (now file) («data» .0) alpha count (now durations) ⌝ }
     ensures { λ _. ⌜ now (durations .exit) ≡ durationsAt (now (file .entry)) («data» .0) alpha ++ drop (length (durationsAt (now (file .entry)) («data» .0) alpha)) (now (durations .entry)) ⌝ }
 {
     let mut found: usize = 0;
     let mut start = data.0;
     let mut wait = nothing_waits();
     loop {
+        let starts = starts_frame(&file[start..]);
+        found = put(durations, found, starts, wait.duration);
+        if count <= found {
+            return;
+        }
         let cut = cut_at(file, BytePos(start));
         let past = cut.end.0;
         let verdict = verdict_on(&file[start..past], alpha);
-        found = put(durations, found, verdict.starts, wait.duration);
         wait = wait_after(wait, verdict, BytePos(start));
-        if file.len() <= cut.code.0 {
-            return;
-        }
         start = cut.code.0 + 3;
     }
 }

@@ -1,4 +1,4 @@
--- What undoing and redoing answer, and what they leave in the buffer: 22 where a rule is broken, then 20 where it is too small, at offset 0.
+-- What undoing and redoing answer, and what they leave in the buffer: 22 where a rule is broken, then 20 where the buffer is too small, at offset 0.
 use mathlib.Core.List.{List}
 use Prim.Native.Nat.{ℕ}
 use lib.Dec.{leb}

@@ -1,24 +1,14 @@
 // The emulation rules of a unit.
 use crate::pattern;
 use bpg_bytes::BytePos;
+use bpg_bytes::byte_at;
 ghost use mathlib.Core.Path.{_≡_};
-ghost use lib.ListN.{getD};
 ghost use Rattle.bpg_nal_escape.specs.Checks.{checkOf};
 
 // Whether a unit keeps the rules; and if so, how many bytes it has without its emulation prevention bytes.
 pub struct Checked {
     pub kept: bool,
     pub count: usize,
-}
-
-// The byte at `at`; 0 past the end.
-pub(crate) fn byte_at(unit: &[u8], at: usize) -> u8
-    ensures { λ r. ⌜ r ≡ getD (now (unit .entry)) at 0 ⌝ }
-{
-    if at < unit.len() {
-        return unit[at];
-    }
-    0
 }
 
 pub(crate) fn check(unit: &[u8]) -> Checked

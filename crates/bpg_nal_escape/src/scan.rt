@@ -1,7 +1,7 @@
 // A unit cut off and judged by the emulation rules in one go over its bytes: start codes are patterns too.
 use crate::pattern;
-use crate::rules::byte_at;
 use bpg_bytes::BytePos;
+use bpg_bytes::byte_at;
 use bpg_nal_units::Cut;
 use bpg_nal_units::trimmed;
 ghost use mathlib.Core.Path.{_≡_};

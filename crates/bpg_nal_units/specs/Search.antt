@@ -1,4 +1,4 @@
--- The first place in bytes from which on they pass a test.
+-- Where the rest of a list first passes a test.
 use mathlib.Core.Bool.{Bool}
 use mathlib.Core.List.{List, [], _∷_}
 use Prim.Native.Nat.{ℕ, suc, min, _+_}

@@ -15,7 +15,8 @@ pub struct Place {
     pub next: Cursor,
 }
 
-// A message, if the content goes on to its end: whether it is a duration, and which.
+// A message: whether it is a duration, and which. `more` is false where the content is cut short, and for a duration that is not of two bytes: both
+// are refusal 22.
 pub struct Message {
     pub more: bool,
     pub timed: bool,

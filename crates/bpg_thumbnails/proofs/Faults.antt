@@ -12,9 +12,9 @@ use Rattle.bpg_codec.proofs.Lists.{either-way, take-drop}
 use Rattle.bpg_codec.proofs.Refusals.{Refuses, refuses-error}
 use Rattle.bpg_codec.proofs.Select.{is-true}
 use Rattle.bpg_format.specs.Records.{usedEntries, readFile}
-use Rattle.bpg_format.specs.Parts.{entryOf, payloadOf}
+use Rattle.bpg_format.specs.Parts.{recordIn, entryOf, payloadOf}
 use Rattle.bpg_format.proofs.RuleLaws.{bool-apart}
-use Rattle.bpg_thumbnails.specs.Thumbnails.{levelsBelow, recordIn, isAccepted, sizeOf, isSmaller, thumbnails, checkThumbnail, checkEntries, checkFile}
+use Rattle.bpg_thumbnails.specs.Thumbnails.{levelsBelow, isAccepted, sizeOf, isSmaller, thumbnails, checkThumbnail, checkEntries, checkFile}
 use Rattle.bpg_thumbnails.specs.Nested.{entry, Within, outer, inner}
 use Rattle.bpg_thumbnails.specs.Calls.{checkedOf, checkThumbnails}
 use Rattle.bpg_thumbnails.specs.Requirements.{Fault, too-deep, refused-itself, not-smaller, Faulty}

@@ -22,11 +22,11 @@ use Rattle.bpg_format.specs.declared.answer.Reading.{Reading}
 use Rattle.bpg_format.specs.Zero.{zeroEntry}
 use Rattle.bpg_format.specs.Rules.{Accepted}
 use Rattle.bpg_format.specs.Records.{bytesIn, usedEntries, recordOf, readFile}
-use Rattle.bpg_format.specs.Parts.{entryOf, rangeEnd}
+use Rattle.bpg_format.specs.Parts.{recordIn, entryOf, rangeEnd}
 use Rattle.bpg_format.proofs.Requirements.{reading, ranges}
 use Rattle.bpg_thumbnails.specs.declared.answer.Checked.{Checked}
 use Rattle.bpg_thumbnails.specs.declared.levels.Size.{Size}
-use Rattle.bpg_thumbnails.specs.Thumbnails.{levelsBelow, recordIn, isAccepted, sizeOf, isSmaller, withTag4, thumbnails, each, checkThumbnail, checkEntries, checkFile}
+use Rattle.bpg_thumbnails.specs.Thumbnails.{levelsBelow, isAccepted, sizeOf, isSmaller, withTag4, thumbnails, each, checkThumbnail, checkEntries, checkFile}
 use Rattle.bpg_thumbnails.specs.Calls.{passed, refused, checkedOf, checkThumbnails}
 use Rattle.bpg_thumbnails.specs.Answers.{checkEntry, FileAt, EntryAt}
 use Rattle.bpg_thumbnails.proofs.EachLaws.{each-refuses, tagged-full}

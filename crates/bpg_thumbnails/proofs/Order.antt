@@ -19,10 +19,10 @@ use Rattle.bpg_format.specs.declared.record.Entry.{Entry}
 use Rattle.bpg_format.specs.Zero.{zeroEntry}
 use Rattle.bpg_format.specs.Rules.{Accepted}
 use Rattle.bpg_format.specs.Records.{usedEntries, readFile}
-use Rattle.bpg_format.specs.Parts.{entryOf, payloadOf, rangeEnd}
+use Rattle.bpg_format.specs.Parts.{recordIn, entryOf, payloadOf, rangeEnd}
 use Rattle.bpg_format.proofs.Requirements.{reading, ranges}
 use Rattle.bpg_thumbnails.specs.declared.answer.Checked.{Checked}
-use Rattle.bpg_thumbnails.specs.Thumbnails.{levelsBelow, recordIn, isAccepted, sizeOf, isSmaller, withTag4, thumbnails, each, checkThumbnail, checkEntries, checkFile}
+use Rattle.bpg_thumbnails.specs.Thumbnails.{levelsBelow, isAccepted, sizeOf, isSmaller, withTag4, thumbnails, each, checkThumbnail, checkEntries, checkFile}
 use Rattle.bpg_thumbnails.specs.Nested.{HasThumbnail, entry, Within, outer, inner, Smaller}
 use Rattle.bpg_thumbnails.specs.Calls.{refused, checkThumbnails}
 use Rattle.bpg_thumbnails.specs.Requirements.{Fault, too-deep, refused-itself, not-smaller, Faulty}

@@ -9,9 +9,9 @@ use borrow.Author.Tests.{eq-eqb, ne-eqb, eqb-true, eqb-false}
 use Rattle.bpg_codec.proofs.Outcome.{error-not-ok, unguard}
 use Rattle.bpg_codec.proofs.Select.{is-true, and-left, and-right, and-both}
 use Rattle.bpg_format.specs.Records.{usedEntries, readFile}
-use Rattle.bpg_format.specs.Parts.{entryOf, payloadOf}
-use Rattle.bpg_thumbnails.specs.Thumbnails.{recordIn, isAccepted, sizeOf, isSmaller, checkThumbnail, checkEntries}
-use Rattle.bpg_thumbnails.specs.Nested.{Smaller}
+use Rattle.bpg_format.specs.Parts.{recordIn, entryOf, payloadOf}
+use Rattle.bpg_thumbnails.specs.Thumbnails.{isAccepted, sizeOf, isSmaller, checkThumbnail, checkEntries}
+use Rattle.bpg_thumbnails.specs.Nested.{widthOf, heightOf, Smaller}
 use Rattle.bpg_thumbnails.proofs.EachLaws.{Passes, each-sound, each-full, tagged-sound, tagged-full}
 
 -- ---- a thumbnail is smaller
@@ -33,28 +33,23 @@ module _ (a b c d : ℕ) where
       by false = tt
 
 module _ (h g : List ℕ) where
-  abbrev w : List ℕ → ℕ
-  w f = recordIn f .«picture_width»
-
-  abbrev t : List ℕ → ℕ
-  t f = recordIn f .«picture_height»
-
   abbrev unequal : Bool
-  unequal = not (eqb (w h) (w g) && eqb (t h) (t g))
+  unequal = not (eqb (widthOf h) (widthOf g) && eqb (heightOf h) (heightOf g))
 
   pub smaller-sound : T (isSmaller (sizeOf (recordIn h)) (sizeOf (recordIn g))) → Smaller h g
   smaller-sound s =
-      let r = and-right (leb (w h) (w g)) (leb (t h) (t g) && unequal) s in
+      let r = and-right (leb (widthOf h) (widthOf g)) (leb (heightOf h) (heightOf g) && unequal) s in
       record {
-        width = leb→le (w h) (w g) (and-left (leb (w h) (w g)) (leb (t h) (t g) && unequal) s);
-        height = leb→le (t h) (t g) (and-left (leb (t h) (t g)) unequal r);
-        differs = differs (w h) (w g) (t h) (t g) (and-right (leb (t h) (t g)) unequal r);
+        width = leb→le (widthOf h) (widthOf g) (and-left (leb (widthOf h) (widthOf g)) (leb (heightOf h) (heightOf g) && unequal) s);
+        height = leb→le (heightOf h) (heightOf g) (and-left (leb (heightOf h) (heightOf g)) unequal r);
+        differs = differs (widthOf h) (widthOf g) (heightOf h) (heightOf g) (and-right (leb (heightOf h) (heightOf g)) unequal r);
       }
 
   pub smaller-full : Smaller h g → T (isSmaller (sizeOf (recordIn h)) (sizeOf (recordIn g)))
   smaller-full s =
-      and-both (leb (w h) (w g)) _ (le→leb (w h) (w g) (s .width))
-      (and-both (leb (t h) (t g)) unequal (le→leb (t h) (t g) (s .height)) (differing (w h) (w g) (t h) (t g) (s .differs)))
+      and-both (leb (widthOf h) (widthOf g)) _ (le→leb (widthOf h) (widthOf g) (s .width))
+      (and-both (leb (heightOf h) (heightOf g)) unequal (le→leb (heightOf h) (heightOf g) (s .height))
+      (differing (widthOf h) (widthOf g) (heightOf h) (heightOf g) (s .differs)))
 
 -- ---- the thumbnails of g, which stands at o; `left` levels may be entered
 

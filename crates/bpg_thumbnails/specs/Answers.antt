@@ -10,9 +10,9 @@ use Rattle.bpg_format.specs.Limits.{maxFile}
 use Rattle.bpg_format.specs.declared.record.Entry.{Entry}
 use Rattle.bpg_format.specs.declared.record.Record.{Record}
 use Rattle.bpg_format.specs.Rules.{Accepted}
-use Rattle.bpg_format.specs.Parts.{rangeEnd}
+use Rattle.bpg_format.specs.Parts.{recordIn, rangeEnd}
 use Rattle.bpg_thumbnails.specs.declared.levels.Size.{Size}
-use Rattle.bpg_thumbnails.specs.Thumbnails.{recordIn, sizeOf, checkThumbnail}
+use Rattle.bpg_thumbnails.specs.Thumbnails.{sizeOf, checkThumbnail}
 
 -- an entry without tag 4 is not looked into
 unfoldable pub checkEntry : (left : ℕ) (f : List ℕ) (start : ℕ) → Entry → Outcome (Unit {0})

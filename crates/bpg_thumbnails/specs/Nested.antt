@@ -3,8 +3,7 @@ use mathlib.Core.Path.{_≡_}
 use mathlib.Core.List.{List}
 use mathlib.Core.Logic.{_⊎_, _≢_}
 use Prim.Native.Nat.{ℕ, suc, _+_, _≤_}
-use Rattle.bpg_format.specs.Parts.{entryOf, payloadOf}
-use Rattle.bpg_thumbnails.specs.Thumbnails.{recordIn}
+use Rattle.bpg_format.specs.Parts.{recordIn, entryOf, payloadOf}
 
 -- f has a thumbnail, these bytes, at this offset: the payload of an entry with tag 4. (Past the last entry, and in a refused file, the tag is 0.)
 pub data HasThumbnail (f : List ℕ) : (thumbnail : List ℕ) (offset : ℕ) → Type 0 where
@@ -15,10 +14,10 @@ pub data Within (f : List ℕ) : (level : ℕ) → List ℕ → (offset : ℕ) �
   outer : Within f 1 f 0
   inner : (l : ℕ) (g : List ℕ) (o : ℕ) (h : List ℕ) (p : ℕ) → Within f l g o → HasThumbnail g h p → Within f (suc l) h (o + p)
 
-abbrev widthOf : List ℕ → ℕ
+abbrev pub widthOf : List ℕ → ℕ
 widthOf f = recordIn f .«picture_width»
 
-abbrev heightOf : List ℕ → ℕ
+abbrev pub heightOf : List ℕ → ℕ
 heightOf f = recordIn f .«picture_height»
 
 -- "neither wider nor taller than its parent, and differ from it in width or height"

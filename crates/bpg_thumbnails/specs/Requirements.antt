@@ -15,7 +15,7 @@ pub record Complies (f : List ℕ) : Type 0 where
   pub accepted : readFile f .status ≡ 0
   -- "Each must be accepted by the plain reading, be neither wider nor taller than its parent, and differ from it in width or height."
   pub thumbnails : (l : ℕ) (g : List ℕ) (o : ℕ) (h : List ℕ) (p : ℕ) → Within f l g o → HasThumbnail g h p → (readFile h .status ≡ 0) × Smaller h g
-  -- "level 5 is not entered"
+  -- "there is no level 5"
   pub no-level-5 : (g : List ℕ) (o : ℕ) → Within f 5 g o → ⊥
 
 pub record Exactly : Type 0 where

@@ -8,14 +8,12 @@ use Rattle.bpg_codec.specs.Outcome.{Outcome, ok, error, _>>=_, guard}
 use Rattle.bpg_format.specs.declared.record.Entry.{Entry}
 use Rattle.bpg_format.specs.declared.record.Record.{Record}
 use Rattle.bpg_format.specs.Records.{bytesIn, usedEntries, readFile}
+use Rattle.bpg_format.specs.Parts.{recordIn}
 use Rattle.bpg_thumbnails.specs.declared.levels.Size.{Size}
 
 -- "The outer file is level 1; level 5 is not entered": levels 2, 3 and 4 are
 abbrev pub levelsBelow : ℕ
 levelsBelow = 3
-
-abbrev pub recordIn : List ℕ → Record
-recordIn f = readFile f .«record»
 
 -- "accepted by the plain reading"
 abbrev pub isAccepted : List ℕ → Bool
@@ -28,7 +26,7 @@ sizeOf r = record { width = r .«picture_width»; height = r .«picture_height»
 abbrev pub isSmaller : Size → (parent : Size) → Bool
 isSmaller s p = leb (s .width) (p .width) && (leb (s .height) (p .height) && not (eqb (s .width) (p .width) && eqb (s .height) (p .height)))
 
--- the entries of a file with tag 4, in file order
+-- the entries of a file with tag 4, its thumbnails (source document 001, "4: Thumbnail"), in file order
 unfoldable pub withTag4 : List Entry → List Entry
 withTag4 [] = []
 withTag4 (e ∷ es) = select (eqb (e .tag) 4) (e ∷ withTag4 es) (withTag4 es)
@@ -41,7 +39,8 @@ unfoldable pub each : {A : Type 0} → (A → Outcome (Unit {0})) → List A →
 each check [] = ok tt
 each check (x ∷ xs) = check x >>= λ _. each check xs
 
--- a thumbnail, an entry of the file f, which stands at `start` in the outer file; `left` levels may be entered, its own among them
+-- a thumbnail, an entry of the file f, which stands at `start` in the outer file; `left` levels may be entered, its own among them: "27 level 5
+-- reached, 28 thumbnail itself refused, 29 not smaller, at the payload's place in the outer file"
 unfoldable pub checkThumbnail : (left : ℕ) (f : List ℕ) (start : ℕ) → Entry → Outcome (Unit {0})
 checkThumbnail zero f start e = error 27 (start + e .payload .start)
 checkThumbnail (suc left) f start e =

@@ -1,66 +1,72 @@
 -- `store::store_durations` meets its contract: the durations so far stand at the front, and the units that are left give the rest.
-use Prim.Native.Nat.{_-_, _≤_}
+use Prim.Native.Nat.{_-_, _≤_, _<_}
 use native.Mathlib.Omega.{arith}
 use lib.ListN.{length}
 use borrow.Author.Needs.{needs}
-use Rattle.bpg_frames.proofs.PassLaws.{Storing, storing, store-span, store-header, store-room, store-more, store-last, size-kept}
+use Rattle.bpg_frames.proofs.StoreLaws.{Storing, storing, store-span, store-header, store-room, size-kept, store-done, store-code, store-more}
 use Rattle.bpg_frames.proofs.store.store_durations.Statement.{statement}
 use Rattle.bpg_frames.proofs.store.store_durations.Tie as tie
 
 abbrev Inv-loop : tie.InvT-loop
-Inv-loop file alpha durations₀ found₀ start₀ wait₀ durations found start wait = Storing file start₀ alpha durations₀ durations start found wait
+Inv-loop file alpha count durations₀ found₀ start₀ wait₀ durations found start wait = Storing file start₀ alpha durations₀ durations start found wait
 
 abbrev μ-loop : tie.MeasureT-loop
-μ-loop file alpha durations₀ found₀ start₀ wait₀ durations found start wait = length file - start
+μ-loop file alpha count durations₀ found₀ start₀ wait₀ durations found start wait = length file - start
 
-span : (c : tie.After-cut-at Inv-loop μ-loop) → let l = c .before .loop in let r = c .cut-at .result in
-    (l .start ≤ r .end .0) × (r .end .0 ≤ length (c .before .before .before .before .before .args .file .now)) × (l .start ≤ r .code .0)
-span c = store-span (c .before .loop .inv) (c .before .before .before .before .before .pre) _ (c .cut-at .ensures)
+-- the ways back
+abbrev st : tie.At-loop Inv-loop μ-loop → tie.Start Inv-loop μ-loop
+st l = l .before .before .before .before
+
+abbrev at : tie.After-cut-at Inv-loop μ-loop → tie.At-loop Inv-loop μ-loop
+at k = k .before .before .before .before .before .before .before .before
+
+put-requires : tie.Need-put-requires Inv-loop μ-loop
+put-requires c κs =
+    let b = c .before in
+    let l = b .before .before in
+    store-room (l .loop .inv) (st l .pre) _ (b .starts-frame .ensures)
+
+same-length : tie.Need-same-length Inv-loop μ-loop
+same-length c =
+    let p = c .before .before .before in
+    let b = p .before .before in
+    let l = b .before .before in
+    size-kept (l .loop .inv) (st l .pre) _ (b .starts-frame .ensures) _ (p .put .ensures .0) _ (p .put .ensures .1)
+
+returns : tie.Need-returns Inv-loop μ-loop
+returns c =
+    let p = c .before .before .before in
+    let b = p .before .before in
+    let l = b .before .before in
+    store-done (l .loop .inv) (st l .pre) _ (b .starts-frame .ensures) _ (p .put .ensures .0) _ (p .put .ensures .1) (c .if1 .taken)
+
+span : (k : tie.After-cut-at Inv-loop μ-loop) → let r = k .cut-at .result in
+    (at k .loop .start ≤ r .end .0) × (r .end .0 ≤ length (st (at k) .args .file .now)) × (at k .loop .start ≤ r .code .0)
+span k = store-span (at k .loop .inv) (st (at k) .pre) _ (k .cut-at .ensures)
+
+-- more units follow
+code : (k : tie.After-cut-at Inv-loop μ-loop) → k .cut-at .result .code .0 < length (st (at k) .args .file .now)
+code k =
+    let p = k .before .before .before .before in
+    let b = p .before .before in
+    store-code (at k .loop .inv) (st (at k) .pre) _ (b .starts-frame .ensures) _ (p .put .ensures .0) _ (p .put .ensures .1)
+    (k .before .if1 .left) _ (k .cut-at .ensures)
 
 verdict-on-requires : tie.Need-verdict-on-requires Inv-loop μ-loop
 verdict-on-requires c κs =
     let k = c .before in
-    let h = store-header (k .before .loop .inv) (k .before .before .before .before .before .pre) _ (k .cut-at .ensures) in
+    let h = store-header (at k .loop .inv) (st (at k) .pre) _ (k .cut-at .ensures) in
     (h .0, h .1)
-
-put-requires : tie.Need-put-requires Inv-loop μ-loop
-put-requires c κs =
-    let v = c .before in
-    let k = v .before .before in
-    store-room (k .before .loop .inv) (k .before .before .before .before .before .pre) _ (k .cut-at .ensures) _ (v .verdict-on .ensures)
-
-same-length : tie.Need-same-length Inv-loop μ-loop
-same-length c =
-    let a = c .before .before in
-    let p = a .before .before .before in
-    let v = p .before .before in
-    let k = v .before .before in
-    size-kept (k .before .loop .inv) (k .before .before .before .before .before .pre) _ (k .cut-at .ensures) _ (v .verdict-on .ensures) _ (p .put .ensures .0)
-    _ (p .put .ensures .1) _ (a .wait-after .ensures)
-
-returns : tie.Need-returns Inv-loop μ-loop
-returns c =
-    let a = c .before .before in
-    let p = a .before .before .before in
-    let v = p .before .before in
-    let k = v .before .before in
-    store-last (k .before .loop .inv) (k .before .before .before .before .before .pre) _ (k .cut-at .ensures) _ (v .verdict-on .ensures) _ (p .put .ensures .0)
-    _ (p .put .ensures .1) _ (a .wait-after .ensures) (c .if1 .taken)
-
-loop-less : tie.Need-loop-less Inv-loop μ-loop
-loop-less c =
-    let e = c .before in
-    omega (arith, e .if1 .left, span (e .before .before .before .before .before .before .before .before .before))
 
 loop-again : tie.Need-loop-again Inv-loop μ-loop
 loop-again c =
-    let e = c .before in
-    let a = e .before .before in
-    let p = a .before .before .before in
-    let v = p .before .before in
+    let a = c .before in
+    let v = a .before in
     let k = v .before .before in
-    store-more (k .before .loop .inv) (k .before .before .before .before .before .pre) _ (k .cut-at .ensures) _ (v .verdict-on .ensures) _ (p .put .ensures .0)
-    _ (p .put .ensures .1) _ (a .wait-after .ensures) (e .if1 .left)
+    let p = k .before .before .before .before in
+    let b = p .before .before in
+    store-more (at k .loop .inv) (st (at k) .pre) _ (b .starts-frame .ensures) _ (p .put .ensures .0) _ (p .put .ensures .1)
+    (k .before .if1 .left) _ (k .cut-at .ensures) _ (v .verdict-on .ensures) _ (a .wait-after .ensures)
 
 pub store-durations-spec : {M : Type 1} → statement M
 store-durations-spec =
@@ -70,15 +76,19 @@ store-durations-spec =
     μ-loop
     (λ c κs. search needs)
     (λ c. storing _ _ _ _ _ (c .before .before .before .pre .start) (c .nothing-waits .ensures))
+    (λ c. c .loop .inv .inside)
+    (λ c. c .loop .inv .inside)
+    (λ c. omega arith)
+    (λ c κs. search needs)
+    put-requires
+    same-length
+    returns
     (λ c κs. search needs)
     (λ c. span c .0)
     (λ c. span c .0)
     (λ c. span c .1)
     verdict-on-requires
-    put-requires
     (λ c κs. search needs)
-    same-length
-    returns
-    (λ c. omega (arith, c .before .before .before .before .before .before .before .before .before .before .before .before .before .before .before .pre .small))
-    loop-less
+    (λ c. let k = c .before .before .before .before in omega (arith, code k, st (at k) .pre .small))
+    (λ c. let k = c .before .before .before .before in omega (arith, code k, span k))
     loop-again)
