@@ -17,7 +17,7 @@ use Rattle.bpg_codec.proofs.Buffer.{length-splice, stored, written-written}
 use Rattle.bpg_format.specs.declared.record.Entry.{Entry}
 use Rattle.bpg_format.specs.declared.record.Header.{Header}
 use Rattle.bpg_format.specs.declared.record.Record.{Record}
-use Rattle.bpg_export_list.specs.Numbers.{loopStart, alphaStart, colorStart, dataStart, recordLength, headNumbers, rangeNumbers, entryNumbers, entriesNumbers}
+use Rattle.bpg_export_list.specs.Numbers.{loopStart, recordLength, headNumbers, rangeNumbers, entryNumbers, entriesNumbers}
 use Rattle.bpg_export_list.specs.Numbers.{animationNumbers, headerNumbers, headersNumbers, numbersOf, entryAt, listEntries, beginsWith}
 
 -- a flag as a number
@@ -65,14 +65,23 @@ two-headers hs d = by-length 2 (λ l. headersNumbers l ≡ headerNumbers (getD l
 
 -- ---- parts written one after the other are one
 
+-- o is `out` with the numbers l over it, from `at` to n
+pub record Filled (out : List ℕ) (at n : ℕ) (l o : List ℕ) : Type 0 where
+  pub is : o ≡ written out at l
+  pub ends : at + length l ≡ n
+
+-- and then with j more
+pub filled-next : {out : List ℕ} {at n j : ℕ} {l o p : List ℕ} → Filled out at n l o → (m : List ℕ) → (p ≡ written o n m) × (length m ≡ j) → n + j ≤ length out
+    → Filled out at (n + j) (l ++ m) p
+filled-next {out} {at} {l = l} f m w h =
+    record {
+      is = w .0 ∙ ap₂ (λ (x : List ℕ) (k : ℕ). written x k m) (f .is) (sym (f .ends)) ∙ written-written out at l m (omega (arith, f .ends, w .1));
+      ends = omega (arith, length-append l m, f .ends, w .1);
+    }
+
 module _ (out : List ℕ) where
   pub written-length : (at : ℕ) (l : List ℕ) → at + length l ≤ length out → length (written out at l) ≡ length out
   written-length at l h = ap length (sym (stored out at l h .0)) ∙ length-splice out at l h
-
-  -- numbers are written from `at` to n, and then these
-  pub written-next : (at n : ℕ) (l m o p : List ℕ) → at + length l ≡ n → n + length m ≤ length out → o ≡ written out at l → p ≡ written o n m
-      → p ≡ written out at (l ++ m)
-  written-next at n l m o p e h q r = r ∙ ap₂ (λ (x : List ℕ) (j : ℕ). written x j m) q (sym e) ∙ written-written out at l m (omega arith)
 
   -- one more entry
   module _ (es : List Entry) (sixteen : length es ≡ maxEntries) (long : loopStart ≤ length out) where
@@ -82,9 +91,8 @@ module _ (out : List ℕ) where
     pub entry-written : (k : ℕ) (d : Entry) (o p : List ℕ) → k < maxEntries → o ≡ written out 12 (entriesNumbers (take k es)) → p ≡ written o (12 + 3 * k) (entryNumbers (getD es k d))
         → p ≡ written out 12 (entriesNumbers (take (k + 1) es))
     entry-written k d o p h q r =
-        let e : 12 + length (entriesNumbers (take k es)) ≡ 12 + 3 * k = ap (λ (n : ℕ). 12 + n) (first-length k (omega arith)) in
-        written-next 12 (12 + 3 * k) (entriesNumbers (take k es)) (entryNumbers (getD es k d)) o p e (omega arith) q r
-        ∙ ap (written out 12) (sym (entries-next es k d (omega arith)))
+        let f : Filled out 12 (12 + 3 * k) (entriesNumbers (take k es)) o = record { is = q; ends = ap (λ (n : ℕ). 12 + n) (first-length k (omega arith)) } in
+        filled-next f (entryNumbers (getD es k d)) (r, refl) (omega arith) .is ∙ ap (written out 12) (sym (entries-next es k d (omega arith)))
 
     pub entries-written : (k : ℕ) (o : List ℕ) → k ≡ maxEntries → o ≡ written out 12 (entriesNumbers (take k es))
         → (o ≡ written out 12 (entriesNumbers es)) × (length (entriesNumbers es) ≡ 3 * maxEntries)
@@ -101,36 +109,19 @@ in-order : (h e l a b d : List ℕ) → ((((h ++ e) ++ l) ++ a) ++ b) ++ d ≡ h
 in-order h e l a b d = simp append-assoc
 
 -- the parts of a record
-module _ (out : List ℕ) (r : Record) (d : Header) (long : recordLength ≤ length out) (two : length (r .headers) ≡ 2) (sixteen : length (entriesNumbers (r .entries)) ≡ 3 * maxEntries) where
-  abbrev alpha : List ℕ
-  alpha = headerNumbers (getD (r .headers) 0 d)
+module _ (r : Record) (d : Header) (two : length (r .headers) ≡ 2) where
+  abbrev parts : List ℕ
+  parts =
+      ((((headNumbers r ++ entriesNumbers (r .entries)) ++ animationNumbers r) ++ headerNumbers (getD (r .headers) 0 d)) ++ headerNumbers (getD (r .headers) 1 d)) ++ rangeNumbers (r .«data»)
 
-  abbrev color : List ℕ
-  color = headerNumbers (getD (r .headers) 1 d)
-
-  parts-are : ((((headNumbers r ++ entriesNumbers (r .entries)) ++ animationNumbers r) ++ alpha) ++ color) ++ rangeNumbers (r .«data») ≡ numbersOf r
+  parts-are : parts ≡ numbersOf r
   unfolding numbersOf
   parts-are =
-      in-order (headNumbers r) (entriesNumbers (r .entries)) (animationNumbers r) alpha color (rangeNumbers (r .«data»))
+      in-order (headNumbers r) (entriesNumbers (r .entries)) (animationNumbers r) _ _ (rangeNumbers (r .«data»))
       ∙ ap (λ (l : List ℕ). headNumbers r ++ (entriesNumbers (r .entries) ++ (animationNumbers r ++ (l ++ rangeNumbers (r .«data»))))) (sym (two-headers (r .headers) d two))
 
-  pub record-written : (o1 o2 o3 o4 o5 o6 : List ℕ) → length alpha ≡ 25 → length color ≡ 25
-      → o1 ≡ written out 0 (headNumbers r) → o2 ≡ written o1 12 (entriesNumbers (r .entries)) → o3 ≡ written o2 loopStart (animationNumbers r)
-      → o4 ≡ written o3 alphaStart alpha → o5 ≡ written o4 colorStart color → o6 ≡ written o5 dataStart (rangeNumbers (r .«data»))
-      → (o6 ≡ written out 0 (numbersOf r)) × (length (numbersOf r) ≡ recordLength)
-  record-written o1 o2 o3 o4 o5 o6 m n p1 p2 p3 p4 p5 p6 =
-      let a = headNumbers r in
-      let b = a ++ entriesNumbers (r .entries) in
-      let c = b ++ animationNumbers r in
-      let e = c ++ alpha in
-      let f = e ++ color in
-      let ends : (length b ≡ loopStart) × (length c ≡ alphaStart) × (length e ≡ colorStart) × (length f ≡ dataStart) = simp length-append (omega arith) in
-      let q2 = written-next out 0 12 a (entriesNumbers (r .entries)) o1 o2 refl (omega arith) p1 p2 in
-      let q3 = written-next out 0 loopStart b (animationNumbers r) o2 o3 (omega arith) (omega arith) q2 p3 in
-      let q4 = written-next out 0 alphaStart c alpha o3 o4 (omega arith) (omega arith) q3 p4 in
-      let q5 = written-next out 0 colorStart e color o4 o5 (omega arith) (omega arith) q4 p5 in
-      let q6 = written-next out 0 dataStart f (rangeNumbers (r .«data»)) o5 o6 (omega arith) (omega arith) q5 p6 in
-      (q6 ∙ ap (written out 0) parts-are, ap length (sym parts-are) ∙ length-append f (rangeNumbers (r .«data»)) ∙ omega arith)
+  pub record-written : {out o : List ℕ} → Filled out 0 recordLength parts o → (o ≡ written out 0 (numbersOf r)) × (length (numbersOf r) ≡ recordLength)
+  record-written {out} f = (f .is ∙ ap (written out 0) parts-are, omega (arith, ap length parts-are, f .ends))
 
 -- ---- lists compared
 

@@ -6,7 +6,7 @@ use mathlib.Core.List.{List, [], _∷_, _++_}
 use Prim.Native.Nat.{ℕ, _+_, _≤_, _<_}
 use native.Mathlib.Omega.{arith}
 use lib.Dec.{leb, eqb}
-use lib.ListN.{length, take, drop, length-append}
+use lib.ListN.{length, take, drop}
 use borrow.Author.Tests.{le-leb, lt-leb, eq-eqb, ne-eqb}
 use Rattle.bpg_codec.specs.Bits.{bit}
 use Rattle.bpg_codec.specs.Outcome.{Outcome, ok, error}
@@ -18,7 +18,7 @@ use Rattle.bpg_format.specs.Zero.{refusedWritten}
 use Rattle.bpg_format.specs.Write.{writtenAnswer, writtenBuffer}
 use Rattle.bpg_export_list.specs.Numbers.{recordLength, readingLength, numbersOf, readingNumbers}
 use Rattle.bpg_export_list.specs.Calls.{listed}
-use Rattle.bpg_export_list.proofs.NumberLaws.{written-next}
+use Rattle.bpg_export_list.proofs.NumberLaws.{Filled, filled-next}
 
 module _ (numbers : List ℕ) (reading : Reading) where
   -- the answer, and the list after it
@@ -39,11 +39,11 @@ module _ (numbers : List ℕ) (reading : Reading) where
       → Answers (record { status = 0; offset = 0; count = readingLength }) p
   list-written z h n o p a b =
       let l = readingNumbers reading in
-      let m = length-append (numbersOf (reading .«record»)) (reading .«coded_width» ∷ reading .«coded_height» ∷ []) in
-      let e : length l ≡ readingLength = omega arith in
-      let w = written-next numbers 0 recordLength (numbersOf (reading .«record»)) (reading .«coded_width» ∷ reading .«coded_height» ∷ []) o p (omega arith) h a b in
+      let f : Filled numbers 0 recordLength (numbersOf (reading .«record»)) o = record { is = a; ends = omega arith } in
+      let w = filled-next f (reading .«coded_width» ∷ reading .«coded_height» ∷ []) (b, refl) h in
+      let e : length l ≡ readingLength = omega (arith, w .ends) in
       let s = by-outcome (ok l) (rw (eq-eqb (reading .status) 0 z, le-leb readingLength (length numbers) h)) in
-      (ap (λ (k : ℕ). record { status = 0; offset = 0; count = k }) (sym e) ∙ s .0, w ∙ sym (stored numbers 0 l (omega arith) .0) ∙ front l ∙ s .1)
+      (ap (λ (k : ℕ). record { status = 0; offset = 0; count = k }) (sym e) ∙ s .0, w .is ∙ sym (stored numbers 0 l (omega arith) .0) ∙ front l ∙ s .1)
     where
       front : (l : List ℕ) → take 0 numbers ++ (l ++ drop (0 + length l) numbers) ≡ l ++ drop (length l) numbers
       front l = let k : 0 + length l ≡ length l = omega arith in ap (λ (j : ℕ). l ++ drop j numbers) k

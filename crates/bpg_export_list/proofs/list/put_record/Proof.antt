@@ -1,8 +1,10 @@
 -- `list::put_record` meets its contract: the parts in a row are the list.
-use mathlib.Core.Path.{_≡_}
-use lib.ListN.{length}
+use mathlib.Core.Path.{_≡_, refl}
+use native.Mathlib.Omega.{arith}
+use lib.ListN.{length, getD}
 use Rattle.bpg_format.proofs.Typed.{headers-count}
-use Rattle.bpg_export_list.proofs.NumberLaws.{record-written}
+use Rattle.bpg_export_list.specs.Numbers.{headNumbers, entriesNumbers, animationNumbers, headerNumbers, rangeNumbers}
+use Rattle.bpg_export_list.proofs.NumberLaws.{Filled, filled-next, record-written}
 use borrow.Author.Needs.{needs}
 use Rattle.bpg_export_list.proofs.list.put_record.Statement.{statement}
 use Rattle.bpg_export_list.proofs.list.put_record.Tie as tie
@@ -19,8 +21,13 @@ returns c =
     let w2 = w3 .before .before .before .before in
     let w1 = w2 .before .before .before .before in
     let s = w1 .before .before .before .before .before .before in
-    record-written (s .args .out .now) (s .args .t2) _ (s .pre) (two s) (w2 .put-entries .ensures .1) _ _ _ _ _ _ (w4 .put-header .ensures .1) (w5 .put-header2 .ensures .1)
-    (w1 .put-head .ensures) (w2 .put-entries .ensures .0) (w3 .put-loop .ensures) (w4 .put-header .ensures .0) (w5 .put-header2 .ensures .0) (w6 .put-data .ensures)
+    let r = s .args .t2 in
+    let head : Filled (s .args .out .now) 0 12 (headNumbers r) _ = record { is = w1 .put-head .ensures; ends = refl } in
+    let entries = filled-next head (entriesNumbers (r .entries)) (w2 .put-entries .ensures) (omega (arith, s .pre)) in
+    let animation = filled-next entries (animationNumbers r) (w3 .put-loop .ensures, refl) (omega (arith, s .pre)) in
+    let alpha = filled-next animation (headerNumbers (getD (r .headers) 0 _)) (w4 .put-header .ensures) (omega (arith, s .pre)) in
+    let color = filled-next alpha (headerNumbers (getD (r .headers) 1 _)) (w5 .put-header2 .ensures) (omega (arith, s .pre)) in
+    record-written r _ (two s) (filled-next color (rangeNumbers (r .«data»)) (w6 .put-data .ensures, refl) (s .pre))
 
 pub put-record-spec : {M : Type 1} → statement M
 put-record-spec =

@@ -1,24 +1,25 @@
 -- `layout::measure` meets its contract.
-use Prim.Native.Nat.{_+_, _^_, _≤_, _<_}
+use mathlib.Core.Path.{_≡_, ap, _∙_}
+use mathlib.Core.Bool.{Bool}
+use Prim.Native.Nat.{ℕ, _+_, _^_, _≤_, _<_}
 use native.Mathlib.Omega.{arith}
-use Rattle.bpg_ue7.proofs.Ue7Laws.{size-most}
-use Rattle.bpg_writer.proofs.LayoutLaws.{measured}
 use borrow.Author.Needs.{needs}
+use Rattle.bpg_codec.specs.Select.{select}
+use Rattle.bpg_ue7.proofs.Ue7Laws.{size-most}
+use Rattle.bpg_writer.specs.Layouts.{sizeOf, extensionSize, headerSize, headersAndDataSize}
 use Rattle.bpg_writer.proofs.layout.measure.Statement.{statement}
 use Rattle.bpg_writer.proofs.layout.measure.Tie as tie
 
 -- the sizes of width and height
 module _ (c : tie.After-size2) where
+  abbrev start : tie.Start
+  start = c .before .before .before .before .before .before .before .before .before .before
+
   width-size : c .before .before .size .result ≤ 10
-  width-size =
-      omega (
-        arith,
-        c .before .before .size .ensures,
-        size-most (c .before .before .before .before .before .before .before .before .before .before .args .«record» .«picture_width») (omega arith),
-      )
+  width-size = omega (arith, c .before .before .size .ensures, size-most (start .args .«record» .«picture_width») (omega arith))
 
   height-size : c .size2 .result ≤ 10
-  height-size = omega (arith, c .size2 .ensures, size-most (c .before .before .before .before .before .before .before .before .before .before .args .«record» .«picture_height») (omega arith))
+  height-size = omega (arith, c .size2 .ensures, size-most (start .args .«record» .«picture_height») (omega arith))
 
 -- and of the data length
 module _ (c : tie.After-size3) where
@@ -67,12 +68,19 @@ add-t10 c = omega (arith, width-size (both c), height-size (both c), data-size c
 add-t17 : tie.Need-add-t17
 add-t17 c = record { fits = sum-fits c }
 
+-- each part from those before it
 returns : tie.Need-returns
 returns c =
-    let block = extension c .before in
-    measured (block .before .args .«record») _ _ _ _ _ _ _ _ _ _ _ (block .block-size .ensures .0) (extension c .extension-size .ensures .0)
-    (alpha c .before .has-alpha .ensures) (alpha c .header-size .ensures .0) (color c .header-size2 .ensures .0) (c .before .data-length .ensures)
-    (both c .before .before .size .ensures) (both c .size2 .ensures) (c .size3 .ensures)
+    let given = start (both c) .args in
+    let r = given .«record» in
+    let block = extension c .before .block-size .ensures .0 in
+    let extended = extension c .extension-size .ensures .0 ∙ ap (extensionSize (r .«extension_present_flag»)) block in
+    let header = alpha c .header-size .ensures .0 ∙ ap (λ (t : Bool). headerSize t (given .alpha-bits)) (alpha c .before .has-alpha .ensures) in
+    let rest : _ ≡ headersAndDataSize r (given .alpha-bits) (given .color-bits) = λ i. header i + color c .header-size2 .ensures .0 i + r .«data» .length in
+    let coded = c .size3 .ensures ∙ ap sizeOf (c .before .data-length .ensures ∙ ap (λ (n : ℕ). select (r .«explicit_length») n 0) rest) in
+    let width = both c .before .before .size .ensures in
+    let height = both c .size2 .ensures in
+    λ i. record { block = block i; «headers_and_data» = rest i; total = 6 + (width i + height i + coded i) + extended i + rest i }
 
 pub measure-spec : {M : Type 1} → statement M
 measure-spec =
