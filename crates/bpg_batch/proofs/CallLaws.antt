@@ -12,7 +12,7 @@ use Rattle.bpg_format.specs.Zero.{refusedWritten}
 use Rattle.bpg_format.proofs.RuleLaws.{bool-apart}
 use Rattle.bpg_batch.specs.Batches.{files, sum, statusesOf, offsetsOf, batchOutcome, batchStatuses, batchOffsets, batchAnswer, Complete}
 
-files-count : (lengths buffer : List ℕ) → length (files lengths buffer) ≡ length lengths
+pub files-count : (lengths buffer : List ℕ) → length (files lengths buffer) ≡ length lengths
 unfolding files
 files-count [] buffer = refl
 files-count (n ∷ ns) buffer = rw (files-count ns _)
@@ -34,7 +34,7 @@ module _ (buffer lengths statuses offsets : List ℕ) where
   Answers x ss os =
       (x ≡ batchAnswer buffer lengths statuses offsets) × ((ss ≡ batchStatuses buffer lengths statuses offsets) × (os ≡ batchOffsets buffer lengths statuses offsets))
 
-  refused-answers : batchOutcome buffer lengths statuses offsets ≡ error 30 0 → Answers (refusedWritten 30 0) statuses offsets
+  pub refused-answers : batchOutcome buffer lengths statuses offsets ≡ error 30 0 → Answers (refusedWritten 30 0) statuses offsets
   unfolding batchAnswer batchStatuses batchOffsets
   refused-answers e = (rw e, (rw e, rw e))
 
