@@ -38,8 +38,8 @@ module _ (buffer lengths statuses offsets : List ℕ) where
   unfolding batchAnswer batchStatuses batchOffsets
   refused-answers e = (rw e, (rw e, rw e))
 
-  pub not-complete : (Complete buffer lengths statuses offsets → ⊥) → Answers (refusedWritten 30 0) statuses offsets
-  not-complete n = complete-or-refused (λ c. absurd (n c)) refused-answers
+  pub not-complete : (x : Written) → x ≡ refusedWritten 30 0 → (Complete buffer lengths statuses offsets → ⊥) → Answers x statuses offsets
+  not-complete x r n = complete-or-refused (λ c. absurd (n c)) λ e. let a = refused-answers e in (r ∙ a .0, a .1)
 
   module _ (c : Complete buffer lengths statuses offsets) where
     complete-outcome : batchOutcome buffer lengths statuses offsets ≡ ok (files lengths buffer)

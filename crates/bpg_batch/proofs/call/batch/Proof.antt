@@ -1,5 +1,6 @@
 -- `call::batch` meets its contract.
 use mathlib.Core.Path.{_∙_}
+use native.Mathlib.Omega.{arith}
 use borrow.Author.Needs.{needs}
 use Rattle.bpg_batch.specs.Batches.{Complete}
 use Rattle.bpg_batch.proofs.CallLaws.{not-complete, complete-answers, they-miss, they-add-up}
@@ -7,15 +8,14 @@ use Rattle.bpg_batch.proofs.call.batch.Statement.{statement}
 use Rattle.bpg_batch.proofs.call.batch.Tie as tie
 
 returns : tie.Need-returns
-returns c = let a = not-complete _ _ _ _ λ s. c .before .if1 .taken (s .as-many-statuses) in (c .written-refused .ensures ∙ a .0, a .1)
+returns c = not-complete _ _ _ _ _ (c .written-refused .ensures) λ s. omega (arith, c .before .if1 .taken, s .as-many-statuses)
 
 returns-2 : tie.Need-returns-2
-returns-2 c = let a = not-complete _ _ _ _ λ s. c .before .if2 .taken (s .as-many-offsets) in (c .written-refused2 .ensures ∙ a .0, a .1)
+returns-2 c = not-complete _ _ _ _ _ (c .written-refused2 .ensures) λ s. omega (arith, c .before .if2 .taken, s .as-many-offsets)
 
 returns-3 : tie.Need-returns-3
 returns-3 c =
-    let a = not-complete _ _ _ _ λ s. they-miss _ _ _ (c .before .before .add-up .ensures) (c .before .if3 .taken) (s .adds-up) in
-    (c .written-refused3 .ensures ∙ a .0, a .1)
+    not-complete _ _ _ _ _ (c .written-refused3 .ensures) λ s. they-miss _ _ _ (c .before .before .add-up .ensures) (c .before .if3 .taken) (s .adds-up)
 
 -- all three tests are passed
 module _ (c : tie.Else3) where
