@@ -1,17 +1,21 @@
 //! Holds the library's answers to those of plain Rust, number by number and byte by byte.
 
+mod batch;
 mod buffers;
 mod canonical;
 mod read;
+mod statuses;
 mod table;
 mod thumbnails;
 mod write;
 
+pub use batch::{batch, BATCH_STATUSES};
 pub use buffers::Buffers;
 pub use canonical::{canonical, canonical_in};
 pub use read::read;
+pub use statuses::Statuses;
 pub use table::{Call, Table};
-pub use thumbnails::{thumbnails, Statuses};
+pub use thumbnails::{thumbnails, THUMBNAIL_STATUSES};
 pub use write::{write, write_in};
 
 use bpg::Refusal;

@@ -1,6 +1,7 @@
 //! An independent reader, writer and canonicalizer in plain Rust, made from the papers alone and not
 //! from the proved library. The comparison holds the library to it, and it is the benchmark's baseline.
 
+mod batch;
 mod bits;
 mod canonical;
 mod check;
@@ -12,6 +13,7 @@ mod reader;
 mod thumbnails;
 mod writer;
 
+pub use batch::batch;
 pub use canonical::canonicalize;
 pub use list::{read_list, record_of, NUMBERS, RECORD};
 pub use reader::read;
