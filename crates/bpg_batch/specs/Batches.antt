@@ -27,7 +27,12 @@ statusesOf fs = map (λ f. readFile f .status) fs
 abbrev pub offsetsOf : List (List ℕ) → List ℕ
 offsetsOf fs = map (λ f. readFile f .offset) fs
 
--- the answers in place of what a list held; a refusal leaves it as it was
+-- the call's answer
+abbrev pub answerFor : Outcome (List (List ℕ)) → Written
+answerFor (ok fs) = record { status = 0; offset = 0; count = length fs }
+answerFor (error s o) = refusedWritten s o
+
+-- what a list holds then: the answers, or after a refusal what it held
 abbrev pub listAfter : (List (List ℕ) → List ℕ) → Outcome (List (List ℕ)) → List ℕ → List ℕ
 listAfter answers (ok fs) list = answers fs
 listAfter answers (error s o) list = list
@@ -41,21 +46,17 @@ module _ (buffer lengths statuses offsets : List ℕ) where
       guard (eqb (sum lengths) (length buffer)) 30 0 >>= λ _.
       ok (files lengths buffer)
 
+  unfoldable pub batchAnswer : Written
+  batchAnswer = answerFor batchOutcome
+
   unfoldable pub batchStatuses : List ℕ
   batchStatuses = listAfter statusesOf batchOutcome statuses
 
   unfoldable pub batchOffsets : List ℕ
   batchOffsets = listAfter offsetsOf batchOutcome offsets
 
-  -- the batch that is not refused
+  -- the batch is not refused
   pub record Complete : Type 0 where
     pub as-many-statuses : length statuses ≡ length lengths
     pub as-many-offsets : length offsets ≡ length lengths
     pub adds-up : sum lengths ≡ length buffer
-
-abbrev pub answerOf : Outcome (List (List ℕ)) → Written
-answerOf (ok fs) = record { status = 0; offset = 0; count = length fs }
-answerOf (error s o) = refusedWritten s o
-
-unfoldable pub batchAnswer : (buffer lengths statuses offsets : List ℕ) → Written
-batchAnswer buffer lengths statuses offsets = answerOf (batchOutcome buffer lengths statuses offsets)
