@@ -3,7 +3,8 @@
  * What each function answers is proved in crates/bpg_export, for every input. The proof does not cover
  *   - a pointer that is null or not aligned (with a length of 0 pass any valid address), or memory that is shorter than its length says;
  *   - memory that is written and overlaps anything else that is passed: out, or a list (numbers, durations), with file, source, unit, bytes
- *     or numbers; the results (*offset, *count, *tag, *start, *length) with each other or with these;
+ *     or numbers; the two lists of bpg_batch with each other, buffer or lengths; the results (*offset, *count, *tag, *start, *length) with
+ *     each other or with these;
  *   - memory that another thread changes during a call;
  *   - this header: nothing checks it against the library's source.
  *
@@ -120,7 +121,8 @@ enum bpg_status {
     BPG_BAD_DATA_START = 26,    /* data empty, or beginning 00 00 01 or 00 00 00 01 */
     BPG_DEEP_THUMBNAIL = 27,    /* thumbnails: one at level 5, the file being level 1 */
     BPG_BAD_THUMBNAIL = 28,     /* thumbnails: one that is itself refused */
-    BPG_LARGE_THUMBNAIL = 29    /* thumbnails: one wider or taller than its parent, or of its size */
+    BPG_LARGE_THUMBNAIL = 29,   /* thumbnails: one wider or taller than its parent, or of its size */
+    BPG_BAD_BATCH = 30          /* batch: the lengths do not add up to the buffer, or the lists differ in length */
 };
 
 /* Reads a file. Success: status 0, the first 117 numbers are the reading's, the rest of the list is unchanged. A list shorter than 117 is
@@ -149,6 +151,12 @@ uint8_t bpg_frame_count(const uint8_t *file, size_t file_len, size_t *count, siz
 /* Checks the thumbnails of a file (entries with tag 4), and theirs at every level. Refusals are those of bpg_read, with their *offset; then in
  * the order of the file, each thumbnail before its children, 27, 28 or 29, where *offset is that of the thumbnail's payload in file. */
 uint8_t bpg_check_thumbnails(const uint8_t *file, size_t file_len, size_t *offset);
+
+/* Reads the files of a buffer, in which they stand end to end with these lengths: statuses[k] and offsets[k] are the status of file k and the
+ * offset in that file, as bpg_read answers them for that file alone, and so one bad file changes no other's answer. The buffer may be longer
+ * than a file may be. The only refusal of the call is 30, and leaves both lists as they were. No file in an empty buffer is fine. */
+uint8_t bpg_batch(const uint8_t *buffer, size_t buffer_len, const uint32_t *lengths, size_t lengths_len, uint8_t *statuses,
+                  size_t statuses_len, uint32_t *offsets, size_t offsets_len);
 
 /* Writes the bytes of a NAL unit without its emulation prevention bytes from the start of out; *count is their number, 0 if refused: 22 for
  * a unit that breaks an emulation rule, then 20. */

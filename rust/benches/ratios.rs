@@ -38,6 +38,7 @@ fn main() {
         }
     }
     reading_sizes();
+    batch();
     println!();
     println!("                              library      plain  ratio     memcpy  ratio");
     for (name, size) in SIZES {
@@ -105,6 +106,46 @@ fn reading_sizes() {
     println!(
         "A file of 16 MiB is read in {:.2} of the time of one of 1 KiB.",
         race.ratio(0, 1)
+    );
+}
+
+/// The files of an hour, against as many calls for one file.
+fn batch() {
+    const FILES: usize = 60;
+    let file = sample::file(3, false, 20 << 10);
+    let lengths = &[file.len() as u32; FILES];
+    let buffer = &file.repeat(FILES)[..];
+    let files: Vec<_> = buffer.chunks(file.len()).collect();
+    let (mut statuses, mut offsets) = ([1; FILES], [1; FILES]);
+    let (mut plain_statuses, mut plain_offsets) = ([1; FILES], [1; FILES]);
+    let race = Race::run(
+        &mut [1; plain::NUMBERS],
+        [
+            &mut |_| {
+                let lists = black_box((&mut statuses, &mut offsets));
+                black_box(bpg::ffi::batch(
+                    black_box(buffer),
+                    lengths,
+                    lists.0,
+                    lists.1,
+                ));
+            },
+            &mut |_| {
+                let lists = black_box((&mut plain_statuses, &mut plain_offsets));
+                black_box(plain::batch(black_box(buffer), lengths, lists.0, lists.1))
+                    .expect("the lengths fit");
+            },
+            &mut |list| {
+                for file in &files {
+                    black_box(bpg::ffi::read(black_box(file), black_box(list)));
+                }
+            },
+        ],
+    );
+    show_two("batch, 60 files of 20 KiB", &race);
+    println!(
+        "It takes {:.2} of the time of 60 calls of `read list`.",
+        race.ratio(0, 2)
     );
 }
 
@@ -199,7 +240,7 @@ fn ok(answer: Result<usize, bpg::Refusal>) {
     black_box(answer).expect("file and record are valid");
 }
 
-fn show_two(name: &str, race: &Race<2>) {
+fn show_two<const N: usize>(name: &str, race: &Race<N>) {
     let (library, plain) = (race.time(0), race.time(1));
     println!(
         "{name:27}{library:10.0} {plain:10.0} {:6.2}",

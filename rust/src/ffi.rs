@@ -61,6 +61,16 @@ extern "C" {
         offset: *mut usize,
     ) -> u8;
     fn bpg_check_thumbnails(file: *const u8, file_len: usize, offset: *mut usize) -> u8;
+    fn bpg_batch(
+        buffer: *const u8,
+        buffer_len: usize,
+        lengths: *const u32,
+        lengths_len: usize,
+        statuses: *mut u8,
+        statuses_len: usize,
+        offsets: *mut u32,
+        offsets_len: usize,
+    ) -> u8;
     fn bpg_unescape(
         unit: *const u8,
         unit_len: usize,
@@ -169,6 +179,22 @@ pub fn check_thumbnails(file: &[u8]) -> (u8, usize) {
     let mut offset = UNSET;
     let status = unsafe { bpg_check_thumbnails(file.as_ptr(), file.len(), &mut offset) };
     (status, offset)
+}
+
+/// Status; on success the lists have the status and the offset of each file.
+pub fn batch(buffer: &[u8], lengths: &[u32], statuses: &mut [u8], offsets: &mut [u32]) -> u8 {
+    unsafe {
+        bpg_batch(
+            buffer.as_ptr(),
+            buffer.len(),
+            lengths.as_ptr(),
+            lengths.len(),
+            statuses.as_mut_ptr(),
+            statuses.len(),
+            offsets.as_mut_ptr(),
+            offsets.len(),
+        )
+    }
 }
 
 /// Status and count; on success that many bytes stand at the start of `out`.

@@ -199,6 +199,33 @@ pub fn check_thumbnails(file: &[u8]) -> Result<(), Refusal> {
     answer(status, offset)
 }
 
+/// Reads the files of a buffer, in which they stand end to end with these lengths: for each, in order,
+/// whether [`read`] accepts it alone, or why and where in that file it is refused. One bad file changes
+/// no other's answer. The batch itself is refused where the lengths do not add up to the buffer.
+///
+/// ```
+/// // File A of the examples, a file that is none, and file A again.
+/// let a = *b"BPG\xFB\x20\x00\x08\x84\x1E\x00\x03\x92\x4D\x00\x26\x01";
+/// let buffer = [&a[..], &a[..9], &a].concat();
+/// let answers = bpg::batch(&buffer, &[16, 9, 16])?;
+/// assert_eq!((answers[0], answers[2]), (Ok(()), Ok(())));
+/// assert_eq!(answers[1], bpg::read(&a[..9]).map(drop));
+/// assert_eq!(answers[1].unwrap_err().offset, 9);
+///
+/// let refusal = bpg::batch(&buffer, &[16, 16]).unwrap_err();
+/// assert_eq!(refusal.reason, bpg::Reason::BadBatch);
+/// # Ok::<(), bpg::Refusal>(())
+/// ```
+pub fn batch(buffer: &[u8], lengths: &[u32]) -> Result<Vec<Result<(), Refusal>>, Refusal> {
+    let mut statuses = vec![0; lengths.len()];
+    let mut offsets = vec![0; lengths.len()];
+    answer(ffi::batch(buffer, lengths, &mut statuses, &mut offsets), 0)?;
+    let answers = statuses.into_iter().zip(offsets);
+    Ok(answers
+        .map(|(status, offset)| answer(status, offset as usize))
+        .collect())
+}
+
 /// Writes the bytes of a NAL unit without its emulation prevention bytes and answers how many there
 /// are: at most as many as the unit has. The rest of `out` is unchanged.
 ///

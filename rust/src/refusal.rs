@@ -61,6 +61,7 @@ reasons! {
     27 DeepThumbnail "a thumbnail stands at level 5",
     28 BadThumbnail "a thumbnail is itself refused",
     29 LargeThumbnail "a thumbnail is wider or taller than its parent, or of its size",
+    30 BadBatch "the lengths do not add up to the buffer, or the lists differ in length",
 }
 
 impl Reason {

@@ -2,8 +2,8 @@
 //! slices a run.
 //!
 //! `BPG_SEED` gives another run; `BPG_FILES`, `BPG_RECORDS`, `BPG_FRAMED` (files whose data is made of units,
-//! for the calls on frames), `BPG_SLICES` (for emulation prevention) and `BPG_NESTED` (files with thumbnails)
-//! another number of cases. A difference fails the test and prints the case and both answers.
+//! for the calls on frames), `BPG_SLICES` (for emulation prevention), `BPG_NESTED` (files with thumbnails) and
+//! `BPG_BATCHES` another number of cases. A difference fails the test and prints the case and both answers.
 
 mod cases;
 mod held;
@@ -12,8 +12,8 @@ mod plain;
 use std::env;
 use std::thread;
 
-use cases::{large, nested, records, Random};
-use held::{Buffers, Cases, Statuses, Table};
+use cases::{batches, large, nested, records, Random};
+use held::{Buffers, Cases, Statuses, Table, BATCH_STATUSES, THUMBNAIL_STATUSES};
 
 const THREADS: u64 = 2;
 
@@ -51,11 +51,35 @@ fn the_deep_check_agrees_with_plain_rust() {
     let seed = setting("BPG_SEED", 20_150_425);
     let files = setting("BPG_NESTED", 300_000);
     let mut random = Random::new(seed.wrapping_add(THREADS + 1));
-    let mut statuses = Statuses::default();
+    let mut statuses = Statuses::new("check_thumbnails", THUMBNAIL_STATUSES);
     for _ in 0..files {
         held::thumbnails(&nested::file(&mut random), &mut statuses);
     }
     println!("{statuses}\n{files} files with thumbnails");
+    let rare = statuses.rare(100);
+    assert!(rare.is_empty(), "met fewer than 100 times: {rare:?}");
+}
+
+#[test]
+fn the_batch_agrees_with_plain_rust() {
+    let seed = setting("BPG_SEED", 20_150_425);
+    let batches = setting("BPG_BATCHES", 200_000);
+    let mut random = Random::new(seed.wrapping_add(THREADS + 2));
+    let mut statuses = Statuses::new("batch", BATCH_STATUSES);
+    for _ in 0..batches {
+        held::batch(&batches::batch(&mut random), &mut random, &mut statuses);
+    }
+    // A file that is too long spoils none beside it.
+    for size in [plain::MAX_FILE, plain::MAX_FILE + 1, 17 << 20] {
+        let files = [
+            cases::file(&mut random),
+            large::long_buffer(1 << 20),
+            cases::file(&mut random),
+        ];
+        let files = [&files[0], &files[1][..size], &files[2]].map(<[u8]>::to_vec);
+        held::batch(&batches::of(&files), &mut random, &mut statuses);
+    }
+    println!("{statuses}\n{batches} batches, and some large");
     let rare = statuses.rare(100);
     assert!(rare.is_empty(), "met fewer than 100 times: {rare:?}");
 }

@@ -1,4 +1,5 @@
 // The library for C and Rust: numbers and slices alone. include/bpg.h declares these functions for C.
+mod batch;
 mod frames;
 mod thumbnails;
 

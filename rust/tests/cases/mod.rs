@@ -1,5 +1,6 @@
 //! Cases for the comparison: files, records and slices, valid and spoiled, from a generator with a fixed seed.
 
+pub mod batches;
 pub mod bytes;
 pub mod faults;
 pub mod frames;

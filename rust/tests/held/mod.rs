@@ -1,21 +1,25 @@
 //! Holds the library's answers to those of plain Rust, number by number and byte by byte.
 
+mod batch;
 mod buffers;
 mod canonical;
 mod escape;
 mod frames;
 mod read;
+mod statuses;
 mod table;
 mod thumbnails;
 mod write;
 
+pub use batch::{batch, BATCH_STATUSES};
 pub use buffers::Buffers;
 pub use canonical::{canonical, canonical_in};
 pub use escape::escape;
 pub use frames::frames;
 pub use read::read;
+pub use statuses::Statuses;
 pub use table::{Call, Cases, Table};
-pub use thumbnails::{thumbnails, Statuses};
+pub use thumbnails::{thumbnails, THUMBNAIL_STATUSES};
 pub use write::{write, write_in};
 
 use bpg::Refusal;

@@ -2,6 +2,7 @@
 //! prevention, made from the papers alone and not from the proved library. The comparison holds the library
 //! to it, and it is the benchmark's baseline.
 
+mod batch;
 mod bits;
 mod canonical;
 mod check;
@@ -18,6 +19,7 @@ mod sei;
 mod thumbnails;
 mod writer;
 
+pub use batch::batch;
 pub use canonical::canonicalize;
 pub use escape::{escape, unescape};
 pub use frames::{frame_count, frames};

@@ -1,0 +1,3 @@
+-- The hourly batch: files that stand in one buffer.
+pub mod Batches
+pub mod Requirements
