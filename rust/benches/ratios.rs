@@ -28,8 +28,9 @@ fn main() {
     println!(
         "above 1 the library is slower. Every byte of the buffers was touched before; they are not"
     );
-    println!("cleared between calls. `list`: the C call, a record being a list of numbers. `frame_count`: of");
-    println!("16 MiB. Marks are two zero bytes and one of at most 3; few: one in 4 KiB; many: one in 13 bytes.");
+    println!("cleared between calls. `list`: the C call, a record being a list of numbers. `frame_count`,");
+    println!("`frames`: of 16 MiB; many frames: one in 64 bytes. Marks are two zero bytes and one of at most 3; few:");
+    println!("one in 4 KiB; many: one in 13 bytes.");
     println!();
     println!("                              library      plain  ratio");
     for entries in [0, 3, 16] {
@@ -50,6 +51,9 @@ fn main() {
     }
     counting_frames("few zeros", Marks::Few);
     counting_frames("many zeros", Marks::Many);
+    timing_frames("still", &sample::still(Marks::Few, 1 << 24));
+    timing_frames("16", &sample::animation(Marks::Few, 1 << 20, 1 << 24));
+    timing_frames("many", &sample::animation(Marks::None, 1 << 6, 1 << 24));
     for (name, size) in &SIZES[1..] {
         for (marks_name, marks) in MARKS {
             let name = format!("{name}, {marks_name}");
@@ -195,7 +199,7 @@ fn writing_list(name: &str, size: usize) {
 }
 
 fn counting_frames(name: &str, marks: Marks) {
-    let file = &sample::animation(marks, 1 << 24)[..];
+    let file = &sample::animation(marks, 1 << 20, 1 << 24)[..];
     let race = Race::run(
         &mut buffer(file.len()),
         [
@@ -205,6 +209,21 @@ fn counting_frames(name: &str, marks: Marks) {
         ],
     );
     show_three(&format!("frame_count, {name}"), &race);
+}
+
+/// Plain Rust keeps the durations beside the list and goes over the file once.
+fn timing_frames(name: &str, file: &[u8]) {
+    let count = plain::frame_count(file).expect("the file is valid");
+    let race = Race::run(
+        &mut vec![1; count],
+        [
+            &mut |list| {
+                black_box(bpg::ffi::frames(black_box(file), black_box(list)));
+            },
+            &mut |list| ok(plain::frames(black_box(file), black_box(list))),
+        ],
+    );
+    show_two(&format!("frames, {name}"), &race);
 }
 
 fn unescaping(name: &str, unit: &[u8]) {

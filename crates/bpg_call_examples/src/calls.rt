@@ -7,8 +7,7 @@ use crate::text;
 fn show_read(file: &[u8], numbers: &mut [u64]) {
     let mut offset: usize = 9;
     let status = bpg_export::bpg_read(file, numbers, &mut offset);
-    text::show_number(b" | read ", status as u64);
-    text::show_number(b" ", offset as u64);
+    text::show_answer(b" | read ", status, offset);
     text::show_numbers(numbers);
 }
 
@@ -37,8 +36,7 @@ fn show_canonical(file: &[u8], out: &mut [u8]) {
     let mut count: usize = 9;
     let mut offset: usize = 9;
     let status = bpg_export::bpg_canonicalize(file, out, &mut count, &mut offset);
-    text::show_number(b" | canonical ", status as u64);
-    text::show_number(b" ", offset as u64);
+    text::show_answer(b" | canonical ", status, offset);
     text::show_number(b" ", count as u64);
     text::show(b" ");
     text::show_hex(out);

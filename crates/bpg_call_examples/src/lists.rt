@@ -40,8 +40,7 @@ fn list(s: &[u8], numbers: &mut [u64])
 fn show_written(numbers: &[u64], source: &[u8], out: &mut [u8]) {
     let mut count: usize = 9;
     let status = bpg_export::bpg_write(numbers, source, out, &mut count);
-    text::show_number(b"", status as u64);
-    text::show_number(b" ", count as u64);
+    text::show_answer(b"", status, count);
     text::show(b" ");
     text::show_hex(out);
 }

@@ -4,7 +4,11 @@
 // are skipped.
 //   00  a file, see `calls`
 //   01  a list of numbers to be written, see `lists`
+//   02  a file with frames or thumbnails, see `frames`
+//   03  bytes with or without emulation prevention, see `escaping`
 mod calls;
+mod escaping;
+mod frames;
 mod lists;
 mod text;
 
@@ -19,6 +23,8 @@ fn show_case(bytes: &[u8], count: usize) {
     match s[0] {
         0 => calls::show(&s[1..]),
         1 => lists::show(&s[1..]),
+        2 => frames::show(&s[1..]),
+        3 => escaping::show(&s[1..]),
         _ => {}
     }
 }

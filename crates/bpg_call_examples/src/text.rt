@@ -10,6 +10,12 @@ pub(crate) fn show_number(label: &[u8], v: u64) {
     io::print_decimal(1, v);
 }
 
+// A label, and the status and a second number of an answer.
+pub(crate) fn show_answer(label: &[u8], status: u8, second: usize) {
+    show_number(label, status as u64);
+    show_number(b" ", second as u64);
+}
+
 // Two digits for each byte.
 fn show_bytes(s: &[u8]) {
     let mut i = 0;

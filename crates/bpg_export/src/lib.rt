@@ -4,6 +4,11 @@ mod frames;
 mod thumbnails;
 
 use bpg_reader::EntryAt;
+pub use frames::bpg_escape;
+pub use frames::bpg_frame_count;
+pub use frames::bpg_frames;
+pub use frames::bpg_unescape;
+pub use thumbnails::bpg_check_thumbnails;
 ghost use mathlib.Core.Path.{_≡_};
 ghost use lib.Dec.{ltb};
 ghost use Rattle.bpg_format.specs.Records.{readFile};

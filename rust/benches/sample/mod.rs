@@ -1,5 +1,7 @@
 //! Files and bytes to measure with.
 
+use std::ops::Range;
+
 use bpg::{Entry, HevcHeader, Record, Span};
 
 use crate::plain;
@@ -82,23 +84,38 @@ pub fn unit(marks: Marks, size: usize) -> Vec<u8> {
     unit
 }
 
+/// The start of a frame's slice.
+const SLICE: &[u8] = b"\x26\x01\x80";
+
+/// A still file of `size` bytes, its data one slice.
+pub fn still(marks: Marks, size: usize) -> Vec<u8> {
+    let (mut file, range) = filled(0, marks, size);
+    file[range][..SLICE.len()].copy_from_slice(SLICE);
+    file
+}
+
 /// A duration of two periods, a start code, and the start of a frame's slice.
 const FRAME: &[u8] = b"\x4E\x01\xFF\x02\x02\x00\x02\x80\x00\x00\x01\x26\x01\x80";
 
-/// An animated file of `size` bytes, with a frame in each MiB of its data.
-pub fn animation(marks: Marks, size: usize) -> Vec<u8> {
-    const PART: usize = 1 << 20;
-    let mut file = file(2, false, size);
-    let record = plain::read(&file).expect("the file is valid");
-    let data = &mut file[record.data.range()];
-    data.copy_from_slice(&unit(marks, data.len()));
-    for start in (0..data.len()).step_by(PART) {
+/// An animated file of `size` bytes, with a frame in so many bytes of its data.
+pub fn animation(marks: Marks, part: usize, size: usize) -> Vec<u8> {
+    let (mut file, range) = filled(2, marks, size);
+    let data = &mut file[range];
+    for start in (0..data.len() - FRAME.len()).step_by(part) {
         data[start..][..FRAME.len()].copy_from_slice(FRAME);
         if start > 0 {
             data[start - 3..start].copy_from_slice(&[0, 0, 1]);
         }
     }
     file
+}
+
+/// A file of `size` bytes whose data keeps the emulation rules, and where the data lies.
+fn filled(entries: usize, marks: Marks, size: usize) -> (Vec<u8>, Range<usize>) {
+    let mut file = file(entries, false, size);
+    let range = plain::read(&file).expect("the file is valid").data.range();
+    file[range.clone()].copy_from_slice(&unit(marks, range.len()));
+    (file, range)
 }
 
 fn set_entries(record: &mut Record, entries: usize) {
