@@ -2,12 +2,12 @@
  *
  * What each function answers is proved in crates/bpg_export, for every input. The proof does not cover
  *   - a pointer that is null or not aligned (with a length of 0 pass any valid address), or memory that is shorter than its length says;
- *   - memory that is written and overlaps anything else that is passed: out, or the list of bpg_read, with file, source or numbers; the
- *     results (*offset, *count, *tag, *start, *length) with each other or with these;
+ *   - memory that is written and overlaps anything else that is passed: out, or a list (numbers, durations), with file, source, unit, bytes
+ *     or numbers; the results (*offset, *count, *tag, *start, *length) with each other or with these;
  *   - memory that another thread changes during a call;
  *   - this header: nothing checks it against the library's source.
  *
- * A call answers a status: 0, or a refusal number (enum bpg_status). A refusal leaves the buffer, or the list of numbers, as it was.
+ * A call answers a status: 0, or a refusal number (enum bpg_status). A refusal leaves the buffer, or the list, as it was.
  * Every result is always written. */
 #ifndef BPG_H
 #define BPG_H
@@ -113,7 +113,7 @@ enum bpg_status {
     BPG_INCONSISTENT = 19,      /* writing: an unused or absent field not 0, flags that contradict, loop numbers that are not those of the
                                    tag 5 payload, or a number that its field cannot hold */
     BPG_BUFFER_TOO_SMALL = 20,  /* the buffer, or the list of numbers or durations */
-    BPG_BAD_NAL_UNIT = 22,      /* frames: a unit too short, its header, its emulation prevention or its SEI messages */
+    BPG_BAD_NAL_UNIT = 22,      /* frames, unescape: a unit too short, its header, its emulation prevention or its SEI messages */
     BPG_BAD_NAL_LAYER = 23,     /* frames: a layer above 1, layer 1 without alpha, or a VPS or SPS */
     BPG_BAD_DURATION = 24,      /* frames: 0, two with no frame start between, or one with no frame after it */
     BPG_BAD_FRAME_COUNT = 25,   /* frames: a still file without exactly one, an animated one with fewer than two */
@@ -147,7 +147,7 @@ uint8_t bpg_frames(const uint8_t *file, size_t file_len, uint16_t *durations, si
 uint8_t bpg_frame_count(const uint8_t *file, size_t file_len, size_t *count, size_t *offset);
 
 /* Checks the thumbnails of a file (entries with tag 4), and theirs at every level. Refusals are those of bpg_read, with their *offset; then in
- * the order of the file, each thumbnail before its own, 27, 28 or 29, where *offset is that of the thumbnail's payload in file. */
+ * the order of the file, each thumbnail before its children, 27, 28 or 29, where *offset is that of the thumbnail's payload in file. */
 uint8_t bpg_check_thumbnails(const uint8_t *file, size_t file_len, size_t *offset);
 
 /* Writes the bytes of a NAL unit without its emulation prevention bytes from the start of out; *count is their number, 0 if refused: 22 for
