@@ -14,6 +14,7 @@ use Rattle.bpg_nal_escape.specs.Emulation.{unescape, escape, keepsRules}
 use Rattle.bpg_nal_escape.specs.Calls.{unescapeAnswer, unescapeBuffer, escapeAnswer, escapeBuffer}
 use Rattle.bpg_nal_escape.specs.Checks.{checkOf}
 use Rattle.bpg_nal_escape.proofs.BufferLaws.{filled}
+use Rattle.bpg_nal_escape.proofs.LengthLaws.{un-most, es-least}
 
 module _ (u out : List ℕ) (r : Checked) (e : r ≡ checkOf u) where
   kept-is : r .kept ≡ keepsRules u
@@ -24,11 +25,14 @@ module _ (u out : List ℕ) (r : Checked) (e : r ≡ checkOf u) where
   un-broken k = rw (sym kept-is ∙ k) (refl, refl)
 
   module _ (k : r .kept ≡ true) where
-    pub un-kept : keepsRules u ≡ true
+    un-kept : keepsRules u ≡ true
     un-kept = sym kept-is ∙ k
 
-    pub un-count : r .count ≡ length (unescape u)
+    un-count : r .count ≡ length (unescape u)
     un-count = ap (λ (x : Checked). x .count) e ∙ select-true _ _ un-kept
+
+    pub un-judged : (keepsRules u ≡ true) × (r .count ≡ length (unescape u)) × (r .count ≤ length u)
+    un-judged = (un-kept, un-count, rw un-count (un-most u 0))
 
     pub un-small : length out < r .count → (refusedWritten 20 0 ≡ unescapeAnswer u out) × (out ≡ unescapeBuffer u out)
     unfolding unescapeAnswer unescapeBuffer
@@ -40,6 +44,9 @@ module _ (u out : List ℕ) (r : Checked) (e : r ≡ checkOf u) where
     un-done after h w = rw (un-kept, le-leb (length (unescape u)) (length out) (omega (arith, un-count)), un-count, w) (refl, refl)
 
 module _ (l out : List ℕ) (n : ℕ) (e : n ≡ length (escape l)) where
+  pub es-counted : length l ≤ n
+  es-counted = rw e (es-least l 0)
+
   pub es-small : length out < n → (refusedWritten 20 0 ≡ escapeAnswer l out) × (out ≡ escapeBuffer l out)
   unfolding escapeAnswer escapeBuffer
   es-small h = rw (lt-leb (length (escape l)) (length out) (omega arith)) (refl, refl)

@@ -11,11 +11,12 @@ use Rattle.bpg_codec.specs.Select.{select}
 use Rattle.bpg_codec.proofs.Lists.{either-way}
 use Rattle.bpg_codec.proofs.Select.{select-true, select-false}
 use Rattle.bpg_nal_units.specs.Search.{offsetOf, offsetFrom}
-use Rattle.bpg_nal_units.proofs.Cases.{by-equal, one-answer}
+use Rattle.bpg_nal_units.proofs.Cases.{by-test, by-equal, one-answer}
 use Rattle.bpg_nal_units.proofs.SearchLaws.{search-most, search-found}
 use Rattle.bpg_nal_escape.specs.Emulation.{unescape, escape, startsPattern, keepsRules}
 use Rattle.bpg_nal_escape.specs.Endings.{endsOpen}
 use Rattle.bpg_nal_escape.proofs.PatternLaws.{pattern-bytes, pattern-room}
+use Rattle.bpg_nal_escape.proofs.LengthLaws.{un-same, es-same}
 use Rattle.bpg_nal_escape.proofs.StretchLaws.{un-stretch, un-tail, un-pattern, es-stretch, es-tail, es-pattern, keeps-stretch, keeps-tail, keeps-mark, keeps-high, keeps-other}
 
 module _ (u : List ℕ) (i p : ℕ) (h : i ≤ length u) (e : p ≡ offsetFrom startsPattern u i) where
@@ -28,6 +29,16 @@ module _ (u : List ℕ) (i p : ℕ) (h : i ≤ length u) (e : p ≡ offsetFrom s
   pub offset-is : p ≡ i + n
   offset-is = let m = search-most startsPattern left in omega (arith, length-drop i u)
 
+  whole : take (length u - i) left ≡ left
+  whole = take-all (length u - i) left (rw length-drop (omega arith))
+
+  -- no mark is left, as the lengths say
+  pub un-rest : i + length (unescape left) ≡ length u → unescape left ≡ take (length u - i) left ++ []
+  un-rest c = un-same left 0 (omega (arith, length-drop i u)) ∙ sym (append-nil _ ∙ whole)
+
+  pub es-rest : i + length (escape left) ≡ length u → escape left ≡ take (length u - i) left ++ []
+  es-rest c = es-same left 0 (omega (arith, length-drop i u)) ∙ sym (append-nil _ ∙ whole)
+
   -- no pattern is left
   module _ (k : length u ≤ p) where
     no-more : length left ≤ n
@@ -39,22 +50,21 @@ module _ (u : List ℕ) (i p : ℕ) (h : i ≤ length u) (e : p ≡ offsetFrom s
     es-last : escape left ≡ left ++ select (endsOpen left) (3 ∷ []) []
     es-last = es-tail left no-more
 
-    whole : take (length u - i) left ≡ left
-    whole = take-all (length u - i) left (rw length-drop (omega arith))
-
-    pub un-end : unescape left ≡ take (length u - i) left ++ []
-    un-end = un-last ∙ sym (append-nil _ ∙ whole)
-
-    pub es-end-open : endsOpen left ≡ true → escape left ≡ (take (length u - i) left ++ (3 ∷ [])) ++ []
-    es-end-open b = es-last ∙ rw (whole, select-true {X = List ℕ} (3 ∷ []) [] b) (sym (append-nil _))
-
-    pub es-end-shut : endsOpen left ≡ false → escape left ≡ take (length u - i) left ++ []
-    es-end-shut b = es-last ∙ rw (whole, select-false {X = List ℕ} (3 ∷ []) [] b)
+    -- the mark that is left stands at the end
+    pub es-open : length u < i + length (escape left) → escape left ≡ (take (length u - i) left ++ (3 ∷ [])) ++ []
+    es-open c =
+        by-test (endsOpen left) (λ b. es-last ∙ rw (whole, select-true {X = List ℕ} (3 ∷ []) [] b) (sym (append-nil _)))
+        (λ b.
+        let l : length (escape left) ≡ length left = ap length (es-last ∙ ap (λ (x : List ℕ). left ++ x) (select-false _ _ b) ∙ append-nil left) in
+        absurd (omega (arith, length-drop i u)))
 
     pub keeps-last : keepsRules left ≡ true
     keeps-last = keeps-tail left no-more
 
-  -- one stands at p
+  -- one stands at p, where a mark is left
+  pub un-some : i + length (unescape left) < length u → p < length u
+  un-some c = either-way (length u) p (λ k. absurd (let l = ap length (un-last k) in omega (arith, length-drop i u))) (λ k. k)
+
   module _ (k : p < length u) where
     one-more : n < length left
     one-more = let o = offset-is in omega (arith, length-drop i u)
@@ -72,9 +82,6 @@ module _ (u : List ℕ) (i p : ℕ) (h : i ≤ length u) (e : p ≡ offsetFrom s
     bytes =
         let b = pattern-bytes (drop p u) (rw there at (search-found startsPattern left one-more)) in
         (b .0 ∙ rw (third-there, drop-drop), rw third-there at (b .1))
-
-    pub third-most : getD u (p + 2) 0 ≤ 3
-    third-most = let b = bytes .1 in omega arith
 
     -- up to and with 00 00
     front : take (p + 2 - i) left ≡ take n left ++ (0 ∷ 0 ∷ [])

@@ -1,6 +1,6 @@
 -- Patterns: the test, and what the steps of the search for one mean.
 use mathlib.Core.Path.{_≡_, refl, sym, ap, _∙_}
-use mathlib.Core.Bool.{Bool, true, false, _&&_}
+use mathlib.Core.Bool.{Bool, true, false, not, _&&_}
 use mathlib.Core.List.{List, [], _∷_}
 use Prim.Native.Nat.{ℕ, zero, suc, _+_, _≤_, _<_}
 use native.Mathlib.Nat.{add-zero}
@@ -8,10 +8,11 @@ use native.Mathlib.Omega.{arith}
 use lib.Dec.{eqb, ltb}
 use lib.ListN.{length, drop, getD, length-drop, List·getD-eq-default}
 use lib.Seq.{getD-drop}
-use borrow.Author.Tests.{eq-eqb, ne-eqb, lt-ltb, le-ltb, ltb-true}
+use mir.Val.{boolByte}
+use borrow.Author.Tests.{eq-eqb, ne-eqb, le-ltb, ltb-true}
 use Rattle.bpg_codec.proofs.Lists.{either-way}
 use Rattle.bpg_nal_units.specs.Search.{offsetOf, offsetFrom}
-use Rattle.bpg_nal_units.proofs.Cases.{one-answer, and-false}
+use Rattle.bpg_nal_units.proofs.Cases.{by-equal, one-answer, and-false}
 use Rattle.bpg_nal_units.proofs.SearchLaws.{search-found, from-here, from-next, from-two, from-three, from-none}
 use Rattle.bpg_nal_escape.specs.Emulation.{startsPattern}
 
@@ -34,9 +35,6 @@ module _ (l : List ℕ) where
 
   pub by-first : (first ≡ 0 → ⊥) → startsPattern l ≡ false
   by-first h = and-false (ltb third 4) (eqb second 0 && eqb first 0) (and-false (eqb second 0) (eqb first 0) (ne-eqb first 0 h))
-
-  by-all : third < 4 → second ≡ 0 → first ≡ 0 → startsPattern l ≡ true
-  by-all a b c = rw (lt-ltb third 4 a, eq-eqb second 0 b, eq-eqb first 0 c)
 
   by-length : length l < 3 → startsPattern l ≡ false
   by-length h = by-third (let z = List·getD-eq-default l 4 {n = 2} (omega arith) in omega arith)
@@ -75,6 +73,17 @@ module _ (d : List ℕ) (i : ℕ) where
   none-first : (getD d i 0 ≡ 0 → ⊥) → startsPattern (drop i d) ≡ false
   none-first k = by-first (drop i d) (λ e. k (sym first-at ∙ e))
 
+  -- how many further than one: one, where the second byte is no zero
+  abbrev pub stepAt : ℕ
+  stepAt = boolByte (not (eqb (getD d (i + 1) 0) 0))
+
+  pub step-most : stepAt ≤ 1
+  step-most = most (eqb (getD d (i + 1) 0) 0)
+    where
+      most : (zero : Bool) → boolByte (not zero) ≤ 1
+      most true = omega arith
+      most false = omega arith
+
   none-second : (getD d (i + 1) 0 ≡ 0 → ⊥) → startsPattern (drop i d) ≡ false
   none-second k = by-second (drop i d) (λ e. k (sym (getD-drop i d 1 0) ∙ e))
 
@@ -98,12 +107,28 @@ module _ (d : List ℕ) (i : ℕ) where
         from-three startsPattern d i (by-third (drop i d) (rw third-at k)) (none-second d (i + 1) (λ e. let f = rw two at e in omega arith)) h
         (none-first d (i + 2) (λ e. omega arith))
 
-    pub other-second : (getD d (i + 1) 0 ≡ 0 → ⊥) → patternFrom d i ≡ patternFrom d (i + 2)
+    other-second : (getD d (i + 1) 0 ≡ 0 → ⊥) → patternFrom d i ≡ patternFrom d (i + 2)
     other-second k = from-two startsPattern d i (none-second d i k) (none-first d (i + 1) k) (omega arith)
 
-    pub other-first : (getD d i 0 ≡ 0 → ⊥) → patternFrom d i ≡ patternFrom d (i + 1)
-    other-first k = from-next startsPattern d i (omega arith) (none-first d i k)
+    abbrev testAt : Bool
+    testAt = ltb (getD d (i + 2) 0) 4 && (eqb (getD d (i + 1) 0) 0 && eqb (getD d i 0) 0)
 
-    pub found-at : getD d (i + 2) 0 ≤ 3 → getD d (i + 1) 0 ≡ 0 → getD d i 0 ≡ 0 → i ≡ patternFrom d i
-    found-at a b c =
-        from-here startsPattern d i (omega arith) (by-all (drop i d) (rw third-at (omega arith)) (getD-drop i d 1 0 ∙ b) (first-at d i ∙ c))
+    test-is : testAt ≡ startsPattern (drop i d)
+    test-is = rw (third-at, getD-drop i d 1 0, first-at d i)
+
+    pub found-at : testAt ≡ true → i ≡ patternFrom d i
+    found-at e = from-here startsPattern d i (omega arith) (sym test-is ∙ e)
+
+    pub step-on : testAt ≡ false → patternFrom d i ≡ patternFrom d (i + 1 + stepAt d i)
+    step-on e =
+        by-equal (getD d (i + 1) 0) 0
+        (λ z. rw (eq-eqb _ _ z, add-zero (i + 1)) (from-next startsPattern d i (omega arith) (sym test-is ∙ e)))
+        (λ k. let two : i + 1 + 1 ≡ i + 2 = omega arith in rw (ne-eqb _ _ k, two) (other-second k))
+
+-- no pattern begins from a up to b
+abbrev pub Past : (d : List ℕ) (a b : ℕ) → Type 0
+Past d a b = (a ≤ b) × (patternFrom d a ≡ patternFrom d b)
+
+-- three further, by the third byte, at k
+pub past-third : (d : List ℕ) (a i k j : ℕ) → Past d a i → 3 < getD d k 0 → k < length d → k ≡ i + 2 → j ≡ i + 3 → Past d a j
+past-third d a i k j p h l e f = (omega arith, p .1 ∙ high-third d i (omega arith) (rw e at h) ∙ ap (patternFrom d) (sym f))

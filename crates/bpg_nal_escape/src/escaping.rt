@@ -61,26 +61,27 @@ fn put_marked(out: &mut [u8], at: BytePos, bytes: &[u8]) -> BytePos
     BytePos(mark + 1)
 }
 
-// Writes the bytes with their emulation prevention bytes to the front of `out`, which has room.
-fn put(bytes: &[u8], out: &mut [u8])
+// Writes the bytes with their emulation prevention bytes to the front of `out`, which has room. After the last of them, `marks` in all,
+// nothing is looked for.
+fn put(bytes: &[u8], marks: usize, out: &mut [u8])
+    requires { ⌜ length (escaped (now bytes)) ≡ length (now bytes) + marks ⌝ }
     requires { ⌜ length (escaped (now bytes)) ≤ length (now out) ⌝ }
     ensures { λ _. ⌜ now (out .exit) ≡ escaped (now (bytes .entry)) ++ drop (length (escaped (now (bytes .entry)))) (now (out .entry)) ⌝ }
 {
     let mut filled = BytePos(0);
     let mut i: usize = 0;
-    loop {
+    let mut left = marks;
+    while 0 < left {
         let at = pattern::next(bytes, BytePos(i)).0;
         if bytes.len() <= at {
-            if ends_open(bytes, BytePos(i)) {
-                put_marked(out, filled, &bytes[i..]);
-                return;
-            }
-            buffer::write(out, filled, &bytes[i..]);
+            put_marked(out, filled, &bytes[i..]);
             return;
         }
         filled = put_marked(out, filled, &bytes[i..at + 2]);
         i = at + 2;
+        left -= 1;
     }
+    buffer::write(out, filled, &bytes[i..]);
 }
 
 // Writes the bytes with their emulation prevention bytes from the start of `out`.
@@ -92,7 +93,7 @@ pub fn escape(bytes: &[u8], out: &mut [u8]) -> Written
     if out.len() < count {
         return written_refused(20, 0);
     }
-    put(bytes, out);
+    put(bytes, count - bytes.len(), out);
     Written {
         status: 0,
         offset: 0,

@@ -5,7 +5,7 @@ use native.Mathlib.Omega.{arith}
 use lib.ListN.{length}
 use Rattle.bpg_nal_units.specs.Search.{offsetFrom}
 use Rattle.bpg_nal_escape.specs.Emulation.{startsPattern}
-use Rattle.bpg_nal_escape.proofs.PatternLaws.{past-end, other-second, other-first, found-at}
+use Rattle.bpg_nal_escape.proofs.PatternLaws.{past-end, found-at, step-most, step-on}
 use Rattle.bpg_nal_escape.proofs.pattern.next.Statement.{statement}
 use Rattle.bpg_nal_escape.proofs.pattern.next.Tie as tie
 
@@ -15,25 +15,23 @@ Inv-loop bytes end last i₀ i = offsetFrom startsPattern bytes i₀ ≡ offsetF
 abbrev μ-loop : tie.MeasureT-loop
 μ-loop bytes end last i₀ i = length bytes - i
 
--- up to where the third byte is low
 reached : (c : tie.After-past-high Inv-loop μ-loop) → let b = c .before .before .before .before .args .bytes .now in
     offsetFrom startsPattern b (c .before .before .before .before .args .from .0) ≡ offsetFrom startsPattern b (c .past-high .result)
-reached c = c .before .loop .inv ∙ c .past-high .ensures .1 .0
+reached c = c .before .loop .inv ∙ c .past-high .ensures .1
 
 returns-2 : tie.Need-returns-2 Inv-loop μ-loop
 returns-2 c = past-end _ _ (omega arith) ∙ sym (reached (c .before))
 
-loop-again : tie.Need-loop-again Inv-loop μ-loop
-loop-again c = reached (c .before .before .before) ∙ other-second _ _ (omega arith) (c .if3 .taken)
-
 returns-3 : tie.Need-returns-3 Inv-loop μ-loop
-returns-3 c =
-    let e = c .before .before in
-    let p = e .before .before .before in
-    found-at _ _ (omega arith) (p .past-high .ensures .1 .1 (omega arith)) (e .if3 .left) (c .if4 .taken) ∙ sym (reached p)
+returns-3 c = let p = c .before .before .before .before .before in found-at _ _ (omega arith) (c .if3 .taken) ∙ sym (reached p)
 
-loop-again-2 : tie.Need-loop-again-2 Inv-loop μ-loop
-loop-again-2 c = reached (c .before .before .before .before .before) ∙ other-first _ _ (omega arith) (c .if4 .left)
+add-i-3 : tie.Need-add-i-3 Inv-loop μ-loop
+add-i-3 c =
+    let p = c .before .before .before .before .before .before in
+    omega (arith, step-most (p .before .before .before .before .args .bytes .now) (p .past-high .result))
+
+loop-again : tie.Need-loop-again Inv-loop μ-loop
+loop-again c = reached (c .before .before .before .before .before .before) ∙ step-on _ _ (omega arith) (c .before .if3 .left)
 
 pub next-spec : {M : Type 1} → statement M
 next-spec =
@@ -44,15 +42,18 @@ next-spec =
     (λ c. past-end _ _ (omega arith))
     (λ c. omega arith)
     (λ c. refl)
-    (λ c κs. omega arith)
+    (λ c κs. tt)
     returns-2
     (λ c. omega arith)
     (λ c. omega arith)
     (λ c. omega arith)
     (λ c. omega arith)
-    loop-again
     (λ c. omega arith)
     returns-3
     (λ c. omega arith)
     (λ c. omega arith)
-    loop-again-2)
+    (λ c. omega arith)
+    (λ c. tt)
+    add-i-3
+    (λ c. omega arith)
+    loop-again)
