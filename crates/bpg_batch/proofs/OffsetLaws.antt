@@ -9,7 +9,9 @@ use Rattle.bpg_codec.specs.Select.{select}
 use Rattle.bpg_codec.specs.Lists.{same}
 use Rattle.bpg_codec.specs.Outcome.{Outcome, ok, error, _>>=_, guard, Decoded, decoded}
 use Rattle.bpg_codec.specs.Bits.{isPadding, unpack}
-use Rattle.bpg_ue7.specs.Ue7.{ue7Rest, ue7Decode, notZero}
+use Rattle.bpg_ue7.specs.Ue7.{ue7Decode, notZero}
+use Rattle.bpg_ue7.proofs.Advances.{ue7-advances}
+use Rattle.bpg_ue7.proofs.Places.{places}
 use Rattle.bpg_bits.specs.BitNumbers.{unsignedDecode, prefixDecode, expGolombDecode}
 use Rattle.bpg_format.specs.Limits.{maxEntries, maxFile}
 use Rattle.bpg_format.specs.Content.{Content, hasAlpha, bitDepth}
@@ -61,16 +63,14 @@ module _ {end : ℕ} where
 
   -- ---- numbers
 
-  rest-inside : (l : List ℕ) (n start v p : ℕ) → start ≤ end → p + length l ≤ end → Gives end (Inside end) (ue7Rest n start v p l)
-  unfolding ue7Rest
-  rest-inside [] n start v p a h = refusal 2 start a
-  rest-inside (b ∷ l) n start v p a h =
-      after (rule (ltb (v * 128 + b % 128) (2 ^ n)) 8 start a) λ _ _. chosen (ltb b 128) (value _ (omega arith)) (rest-inside l n start _ (p + 1) a (omega arith))
-
   ue7-inside : (n p : ℕ) (l : List ℕ) → p + length l ≤ end → Gives end (Inside end) (ue7Decode n p l)
-  unfolding ue7Decode
-  ue7-inside n p [] h = refusal 2 p (omega arith)
-  ue7-inside n p (b ∷ l) h = after (rule (not (eqb b 128)) 7 p (omega arith)) λ _ _. rest-inside (b ∷ l) n p 0 p (omega arith) h
+  ue7-inside n p l h = by (ue7Decode n p l) refl
+    where
+      by : (m : Outcome (Decoded ℕ ℕ)) → ue7Decode n p l ≡ m → Gives end (Inside end) m
+      by (ok x) e =
+          let a = ue7-advances n .advances p p l x e in
+          value x (omega (arith, a .inside, ap length (a .left), length-drop (x .next - p) l))
+      by (error s o) e = refusal s o (omega (arith, places .within n p l s o e .1))
 
   -- ---- the head
 

@@ -1,6 +1,6 @@
 -- Reading a file as a content, or refusing it (document 01, "Order of the file" and "Refusal numbers": reading order), as one chain of steps,
 -- each refusal with its number and place. A step is given its offset p and what is left of its region, l; it gives its value, the offset
--- after it (`next`) and what is then left (`rest`). `ue7Decode` refuses with 2, 7 or 8 at p, `unsignedDecode` and `expGolombDecode` with 15 at `item`.
+-- after it (`next`) and what is then left (`rest`). `ue7Decode` refuses with 2, 7 or 8 at the faulty byte, `unsignedDecode` and `expGolombDecode` with 15 at `item`.
 use mathlib.Core.Bool.{Bool, false, not, _&&_, _||_}
 use mathlib.Core.List.{List, [], _∷_}
 use Prim.Native.Nat.{ℕ, zero, suc, _+_, _*_, _/_, _%_}

@@ -27,17 +27,17 @@ last false n p w b l more x h ih e =
     let next : suc (x .next - (p + 1)) ≡ x .next - p = omega (arith, k .0) in
     (omega (arith, k .0), omega (arith, k .1), k .2 ∙ ap (λ (k : ℕ). drop k (b ∷ l)) next, k .3)
 
-rest-reads : (n start v p : ℕ) (l : List ℕ) (x : Decoded ℕ ℕ) → ue7Rest n start v p l ≡ ok x → Read n p l x
+rest-reads : (n v p : ℕ) (l : List ℕ) (x : Decoded ℕ ℕ) → ue7Rest n v p l ≡ ok x → Read n p l x
 unfolding ue7Rest
-rest-reads n start v p [] x e = absurd (error-not-ok e)
-rest-reads n start v p (b ∷ l) x e =
+rest-reads n v p [] x e = absurd (error-not-ok e)
+rest-reads n v p (b ∷ l) x e =
     let w = v * 128 + b % 128 in
-    unguard (ltb w (2 ^ n)) 8 start _ e λ h e1. last (ltb b 128) n p w b l _ x (ltb→lt _ _ h) (rest-reads n start w (p + 1) l x) e1
+    unguard (ltb w (2 ^ n)) 8 p _ e λ h e1. last (ltb b 128) n p w b l _ x (ltb→lt _ _ h) (rest-reads n w (p + 1) l x) e1
 
 reads : (n p : ℕ) (l : List ℕ) (x : Decoded ℕ ℕ) → ue7Decode n p l ≡ ok x → Read n p l x
 unfolding ue7Decode
 reads n p [] x e = absurd (error-not-ok e)
-reads n p (b ∷ l) x e = unguard (not (eqb b 128)) 7 p _ e λ _ e1. rest-reads n p 0 p (b ∷ l) x e1
+reads n p (b ∷ l) x e = unguard (not (eqb b 128)) 7 p _ e λ _ e1. rest-reads n 0 p (b ∷ l) x e1
 
 pub ue7-advances : (n : ℕ) → Advances (ue7 n)
 ue7-advances n =

@@ -3,3 +3,4 @@ pub mod Ue7Laws
 pub mod Refusals
 pub mod Advances
 pub mod ReadAt
+pub mod Places

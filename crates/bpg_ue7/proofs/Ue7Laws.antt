@@ -19,21 +19,21 @@ use Rattle.bpg_ue7.specs.Ue7.{groups, ue7Bytes, ue7Rest, ue7Decode, ue7}
 
 -- ---- the reader, byte by byte
 
-module _ (n start v p : ℕ) where
-  pub rest-end : ue7Rest n start v p [] ≡ error 2 start
+module _ (n v p : ℕ) where
+  pub rest-end : ue7Rest n v p [] ≡ error 2 p
   unfolding ue7Rest
   rest-end = refl
 
   module _ (b : ℕ) (l : List ℕ) where
-    pub rest-large : 2 ^ n ≤ v * 128 + b % 128 → ue7Rest n start v p (b ∷ l) ≡ error 8 start
+    pub rest-large : 2 ^ n ≤ v * 128 + b % 128 → ue7Rest n v p (b ∷ l) ≡ error 8 p
     unfolding ue7Rest
     rest-large h = rw (le-ltb _ _ h)
 
-    pub rest-last : v * 128 + b % 128 < 2 ^ n → b < 128 → ue7Rest n start v p (b ∷ l) ≡ ok (decoded (v * 128 + b % 128) (p + 1) l)
+    pub rest-last : v * 128 + b % 128 < 2 ^ n → b < 128 → ue7Rest n v p (b ∷ l) ≡ ok (decoded (v * 128 + b % 128) (p + 1) l)
     unfolding ue7Rest
     rest-last h k = rw (lt-ltb _ _ h) (select-true _ _ (lt-ltb _ _ k))
 
-    pub rest-more : v * 128 + b % 128 < 2 ^ n → 128 ≤ b → ue7Rest n start v p (b ∷ l) ≡ ue7Rest n start (v * 128 + b % 128) (p + 1) l
+    pub rest-more : v * 128 + b % 128 < 2 ^ n → 128 ≤ b → ue7Rest n v p (b ∷ l) ≡ ue7Rest n (v * 128 + b % 128) (p + 1) l
     unfolding ue7Rest
     rest-more h k = rw (lt-ltb _ _ h) (select-false _ _ (le-ltb _ _ k))
 
@@ -47,7 +47,7 @@ module _ (n start : ℕ) where
   decode-80 [] e = absurd (omega arith)
   decode-80 (b ∷ l) e = rw (eq-eqb _ _ e)
 
-  pub decode-rest : (l : List ℕ) → (getD l 0 0 ≡ 128 → ⊥) → ue7Decode n start l ≡ ue7Rest n start 0 start l
+  pub decode-rest : (l : List ℕ) → (getD l 0 0 ≡ 128 → ⊥) → ue7Decode n start l ≡ ue7Rest n 0 start l
   unfolding ue7Decode ue7Rest
   decode-rest [] e = refl
   decode-rest (b ∷ l) e = rw (ne-eqb _ _ e)
@@ -146,9 +146,9 @@ bytes-ue7 v = all-append Byte (high (v / 128)) (v % 128 ∷ []) (bytes-groups (v
 
 -- ---- reading what was written
 
-module _ (n start : ℕ) where
+module _ (n : ℕ) where
   abbrev Reads : ℕ → Type 0
-  Reads w = w < 2 ^ n → (p : ℕ) (r : List ℕ) → ue7Rest n start 0 p (high w ++ r) ≡ ue7Rest n start w (p + length (high w)) r
+  Reads w = w < 2 ^ n → (p : ℕ) (r : List ℕ) → ue7Rest n 0 p (high w ++ r) ≡ ue7Rest n w (p + length (high w)) r
 
   reads-zero : Reads 0
   reads-zero h p r = rw (high-zero, add-zero)
@@ -158,7 +158,7 @@ module _ (n start : ℕ) where
       let b : ℕ = 128 + w % 128 in
       let z : w / 128 * 128 + b % 128 ≡ w = omega arith in
       rw (high-more w pos, append-assoc, ih (omega arith))
-      (rest-more n start (w / 128) (p + length (high (w / 128))) b r (omega arith) (omega arith) ∙ rw (z, length-append, add-assoc))
+      (rest-more n (w / 128) (p + length (high (w / 128))) b r (omega arith) (omega arith) ∙ rw (z, length-append, add-assoc))
 
   rest-high : (w : ℕ) → Reads w
   rest-high = by-groups Reads reads-zero reads-more
@@ -184,13 +184,13 @@ decodes : (n start v : ℕ) → v < 2 ^ n → (r : List ℕ) → ue7Decode n sta
 decodes n start v h r =
     let z : v / 128 * 128 + v % 128 % 128 ≡ v = omega arith in
     decode-rest n start (ue7Bytes v ++ r) (first-byte v r)
-    ∙ rw (bytes-high v, append-assoc, rest-high n start (v / 128) (omega arith))
-    (rest-last n start (v / 128) (start + length (high (v / 128))) (v % 128) r (omega arith) (omega arith)
+    ∙ rw (bytes-high v, append-assoc, rest-high n (v / 128) (omega arith))
+    (rest-last n (v / 128) (start + length (high (v / 128))) (v % 128) r (omega arith) (omega arith)
     ∙ rw (z, length-append, add-assoc))
 
 -- ---- what was read is what is written
 
-module _ (n start : ℕ) where
+module _ (n : ℕ) where
   abbrev Read : (v p : ℕ) → List ℕ → Decoded ℕ ℕ → Type 0
   Read v p l x = (x .value < 2 ^ n) × (high v ++ l ≡ ue7Bytes (x .value) ++ x .rest) × (x .next + length (high v) ≡ p + length (ue7Bytes (x .value)))
 
@@ -198,25 +198,25 @@ module _ (n start : ℕ) where
   abbrev Leads : ℕ → List ℕ → Type 0
   Leads v l = 128 ≤ getD l 0 0 → 0 < v * 128 + getD l 0 0 % 128
 
-  rest-read : (l : List ℕ) → All Byte l → (v p : ℕ) → Leads v l → (x : Decoded ℕ ℕ) → ue7Rest n start v p l ≡ ok x → Read v p l x
-  rest-read [] h v p k x e = absurd (error-not-ok (sym (rest-end n start v p) ∙ e))
+  rest-read : (l : List ℕ) → All Byte l → (v p : ℕ) → Leads v l → (x : Decoded ℕ ℕ) → ue7Rest n v p l ≡ ok x → Read v p l x
+  rest-read [] h v p k x e = absurd (error-not-ok (sym (rest-end n v p) ∙ e))
   rest-read (b ∷ l) h v p k x e =
       either-way (2 ^ n) (v * 128 + b % 128)
-      (λ g. absurd (error-not-ok (sym (rest-large n start v p b l g) ∙ e)))
+      (λ g. absurd (error-not-ok (sym (rest-large n v p b l g) ∙ e)))
       (λ g. either-way 128 b (λ m. go-on g m (λ pos. rest-read l (h .1) (v * 128 + b % 128) (p + 1) pos x)) (λ m. last g m))
     where
       last : v * 128 + b % 128 < 2 ^ n → b < 128 → Read v p (b ∷ l) x
       last g m =
           let s = bytes-next v b m in
-          subst (Read v p (b ∷ l)) (ok-injective (sym (rest-last n start v p b l g m) ∙ e))
+          subst (Read v p (b ∷ l)) (ok-injective (sym (rest-last n v p b l g m) ∙ e))
           (g, rw (s, append-assoc), rw (s, length-append) (omega arith))
 
       go-on : v * 128 + b % 128 < 2 ^ n → 128 ≤ b
-          → (Leads (v * 128 + b % 128) l → ue7Rest n start (v * 128 + b % 128) (p + 1) l ≡ ok x → Read (v * 128 + b % 128) (p + 1) l x)
+          → (Leads (v * 128 + b % 128) l → ue7Rest n (v * 128 + b % 128) (p + 1) l ≡ ok x → Read (v * 128 + b % 128) (p + 1) l x)
           → Read v p (b ∷ l) x
       go-on g m rec =
           let s = high-next v b m (h .0) (k m) in
-          let ih = rec (λ _. omega (arith, k m)) (sym (rest-more n start v p b l g m) ∙ e) in (
+          let ih = rec (λ _. omega (arith, k m)) (sym (rest-more n v p b l g m) ∙ e) in (
             ih .0,
             sym (append-assoc (high v) (b ∷ []) l) ∙ rw (← s) (ih .1),
             omega (arith, ih .2, ap length s, length-append (high v) (b ∷ [])),
@@ -227,10 +227,10 @@ encodes n start [] h x e = absurd (error-not-ok (sym (decode-end n start) ∙ e)
 encodes n start (b ∷ l) h x e =
     elim (ℕ-discrete b 128) [
       | yes z ↦ absurd (error-not-ok (sym (decode-80 n start (b ∷ l) z) ∙ e))
-      | no z ↦ read z (rest-read n start (b ∷ l) h 0 start (λ k. omega arith) x (sym (decode-rest n start (b ∷ l) z) ∙ e))
+      | no z ↦ read z (rest-read n (b ∷ l) h 0 start (λ k. omega arith) x (sym (decode-rest n start (b ∷ l) z) ∙ e))
     ]
   where
-    read : (b ≡ 128 → ⊥) → Read n start 0 start (b ∷ l) x → Found (ue7 n) start (b ∷ l) x
+    read : (b ≡ 128 → ⊥) → Read n 0 start (b ∷ l) x → Found (ue7 n) start (b ∷ l) x
     read z s = (s .0, rw high-zero at (s .1), omega (arith, s .2, ap length high-zero))
 
 pub ue7-lawful : (n : ℕ) → Lawful Byte (ue7 n)

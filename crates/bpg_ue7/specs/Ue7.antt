@@ -17,19 +17,19 @@ groups (suc k) (suc w) = groups k (suc w / 128) ++ ((128 + suc w % 128) ∷ [])
 unfoldable pub ue7Bytes : ℕ → List ℕ
 ue7Bytes v = groups (v / 128) (v / 128) ++ (v % 128 ∷ [])
 
--- v is the value so far; the number began at `start`.
--- No byte left in the region, refusal 2; the value so far above 2^n - 1, refusal 8.
-unfoldable pub ue7Rest : (n start v own : ℕ) → List ℕ → Outcome (Decoded ℕ ℕ)
-ue7Rest n start v p [] = error 2 start
-ue7Rest n start v p (b ∷ l) =
+-- v is the value so far. Request 6/13 on the places: no byte left in the region, refusal 2 where it should stand; a byte that takes the value
+-- above 2^n - 1, refusal 8 at that byte
+unfoldable pub ue7Rest : (n v own : ℕ) → List ℕ → Outcome (Decoded ℕ ℕ)
+ue7Rest n v p [] = error 2 p
+ue7Rest n v p (b ∷ l) =
     let w = v * 128 + b % 128 in
-    let more = ue7Rest n start w (p + 1) l in
-    guard (ltb w (2 ^ n)) 8 start >>= λ _. select (ltb b 128) (ok (decoded w (p + 1) l)) more
+    let more = ue7Rest n w (p + 1) l in
+    guard (ltb w (2 ^ n)) 8 p >>= λ _. select (ltb b 128) (ok (decoded w (p + 1) l)) more
 
--- first byte 0x80, refusal 7
+-- first byte 0x80, refusal 7 at it
 unfoldable pub ue7Decode : (n start : ℕ) → List ℕ → Outcome (Decoded ℕ ℕ)
 ue7Decode n start [] = error 2 start
-ue7Decode n start (b ∷ l) = guard (not (eqb b 128)) 7 start >>= λ _. ue7Rest n start 0 start (b ∷ l)
+ue7Decode n start (b ∷ l) = guard (not (eqb b 128)) 7 start >>= λ _. ue7Rest n 0 start (b ∷ l)
 
 abbrev pub ue7 : ℕ → Codec ℕ ℕ
 ue7 n = record { encode = ue7Bytes; decode = λ i p l. ue7Decode n p l; Valid = λ v. v < 2 ^ n }

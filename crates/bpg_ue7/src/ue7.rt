@@ -55,14 +55,14 @@ pub fn read(region: &[u8], at: BytePos, n: u32) -> Number
         let byte = region[next];
         value = value * 128 + ((byte % 128) as u64);
         if most < value {
-            return Number::Refused(8, at);
+            return Number::Refused(8, BytePos(next));
         }
         next += 1;
         if byte < 128 {
             return Number::Value(value as u32, BytePos(next));
         }
     }
-    Number::Refused(2, at)
+    Number::Refused(2, BytePos(next))
 }
 
 // The number at `at`, which is not 0: a 0 is refused with `status`, at the number.

@@ -42,14 +42,14 @@ impl<'a> Cursor<'a> {
             }
             value = value << 7 | u64::from(byte & 0x7F);
             if value > largest {
-                return refuse(Reason::NumberTooLarge, self.at);
+                return refuse(Reason::NumberTooLarge, self.at + i);
             }
             if byte < 0x80 {
                 self.at += i + 1;
                 return Ok(value as u32);
             }
         }
-        refuse(Reason::Truncated, self.at)
+        refuse(Reason::Truncated, self.region.len())
     }
 
     /// A length, ue7(32), of bytes that must be left after it. One too large is refused at the length.

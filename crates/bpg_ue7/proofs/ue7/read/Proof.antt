@@ -16,11 +16,11 @@ use Rattle.bpg_ue7.proofs.ue7.read.Statement.{statement}
 use Rattle.bpg_ue7.proofs.ue7.read.Tie as tie
 
 abbrev Inv-loop : tie.InvT-loop
-Inv-loop region at n start end first most low value₀ next₀ value next =
-    (value ≤ most) × (ue7Decode (min n 32) start (drop start region) ≡ ue7Rest (min n 32) start value next (drop next region))
+Inv-loop region n start end first most low value₀ next₀ value next =
+    (value ≤ most) × (ue7Decode (min n 32) start (drop start region) ≡ ue7Rest (min n 32) value next (drop next region))
 
 abbrev μ-loop : tie.MeasureT-loop
-μ-loop region at n start end first most low value₀ next₀ value next = end - next
+μ-loop region n start end first most low value₀ next₀ value next = end - next
 
 -- ---- what each way out and each turn says of the definition
 
@@ -37,26 +37,26 @@ module _ (n start : ℕ) (region : List ℕ) where
   marked : start < length region → getD region start 0 ≡ 128 → error 7 start ≡ located all
   marked h e = rw (decode-80 n start (drop start region) (first h ∙ e))
 
-  begun : start < length region → (getD region start 0 ≡ 128 → ⊥) → all ≡ ue7Rest n start 0 start (drop start region)
+  begun : start < length region → (getD region start 0 ≡ 128 → ⊥) → all ≡ ue7Rest n 0 start (drop start region)
   begun h e = decode-rest n start (drop start region) (λ z. e (sym (first h) ∙ z))
 
-  module _ (v p : ℕ) (inv : all ≡ ue7Rest n start v p (drop p region)) where
-    cut : length region ≤ p → error 2 start ≡ located all
-    cut h = rw (inv, drop-of-length-le region h, rest-end n start v p)
+  module _ (v p : ℕ) (inv : all ≡ ue7Rest n v p (drop p region)) where
+    cut : length region ≤ p → error 2 p ≡ located all
+    cut h = rw (inv, drop-of-length-le region h, rest-end n v p)
 
     module _ (h : p < length region) where
-      seen : all ≡ ue7Rest n start v p (getD region p 0 ∷ drop (p + 1) region)
+      seen : all ≡ ue7Rest n v p (getD region p 0 ∷ drop (p + 1) region)
       seen = inv ∙ rw (drop-next region p 0 h)
 
-      large : 2 ^ n ≤ v * 128 + getD region p 0 % 128 → error 8 start ≡ located all
-      large k = rw (seen, rest-large n start v p (getD region p 0) (drop (p + 1) region) k)
+      large : 2 ^ n ≤ v * 128 + getD region p 0 % 128 → error 8 p ≡ located all
+      large k = rw (seen, rest-large n v p (getD region p 0) (drop (p + 1) region) k)
 
       done : v * 128 + getD region p 0 % 128 < 2 ^ n → getD region p 0 < 128 → ok (v * 128 + getD region p 0 % 128, p + 1) ≡ located all
-      done k l = rw (seen, rest-last n start v p (getD region p 0) (drop (p + 1) region) k l)
+      done k l = rw (seen, rest-last n v p (getD region p 0) (drop (p + 1) region) k l)
 
       more : v * 128 + getD region p 0 % 128 < 2 ^ n → 128 ≤ getD region p 0
-          → all ≡ ue7Rest n start (v * 128 + getD region p 0 % 128) (p + 1) (drop (p + 1) region)
-      more k l = seen ∙ rest-more n start v p (getD region p 0) (drop (p + 1) region) k l
+          → all ≡ ue7Rest n (v * 128 + getD region p 0 % 128) (p + 1) (drop (p + 1) region)
+      more k l = seen ∙ rest-more n v p (getD region p 0) (drop (p + 1) region) k l
 
   -- the first byte, which is not 0x80
   module _ (h : start < length region) (e : getD region start 0 ≡ 128 → ⊥) where
@@ -72,8 +72,8 @@ module _ (n start : ℕ) (region : List ℕ) where
         ap (λ (v : ℕ). ok (v, start + 1)) is ∙ done 0 start (begun h e) h (omega arith) l
 
     first-more : getD region start 0 % 128 < 2 ^ n → 128 ≤ getD region start 0
-        → all ≡ ue7Rest n start (getD region start 0 % 128) (start + 1) (drop (start + 1) region)
-    first-more k l = more 0 start (begun h e) h (omega arith) l ∙ ap (λ (v : ℕ). ue7Rest n start v (start + 1) (drop (start + 1) region)) low-is
+        → all ≡ ue7Rest n (getD region start 0 % 128) (start + 1) (drop (start + 1) region)
+    first-more k l = more 0 start (begun h e) h (omega arith) l ∙ ap (λ (v : ℕ). ue7Rest n v (start + 1) (drop (start + 1) region)) low-is
 
 -- ---- the needs
 
