@@ -1,10 +1,11 @@
 -- The durations of a file whose frames are all well: how many there are, and what holds of each.
 use mathlib.Core.Path.{_≡_, refl, sym, ap, _∙_, subst}
 use mathlib.Core.Bool.{true, false}
-use mathlib.Core.List.{List, [], _∷_}
+use mathlib.Core.List.{List, [], _∷_, _++_}
+use mathlib.Core.Logic.{inl, inr}
 use Prim.Native.Nat.{ℕ, _≤_}
 use native.Mathlib.Omega.{arith}
-use lib.ListN.{length, drop}
+use lib.ListN.{length, drop, getD}
 use borrow.Author.Tests.{eq-eqb, ne-eqb}
 use Rattle.bpg_codec.specs.Outcome.{ok}
 use Rattle.bpg_codec.specs.Lawful.{All, Byte}
@@ -14,12 +15,14 @@ use Rattle.bpg_format.specs.Parts.{recordIn, dataOf}
 use Rattle.bpg_nal_units.specs.Units.{Nal}
 use Rattle.bpg_nal_units.proofs.Cases.{by-equal}
 use Rattle.bpg_nal_units.proofs.Whole.{units-bytes}
-use Rattle.bpg_frames.specs.Units.{isPrefixSei}
-use Rattle.bpg_frames.specs.Frames.{nothing, lasting, enough}
+use Rattle.bpg_frames.specs.declared.wait.Waiting.{Waiting}
+use Rattle.bpg_frames.specs.Units.{isPrefixSei, startsFrame}
+use Rattle.bpg_frames.specs.Frames.{nothing, lasting, framesFrom, enough}
 use Rattle.bpg_frames.specs.Calls.{dataAt, alphaIn, unitsIn, framesOf, frameCount}
-use Rattle.bpg_frames.specs.Requirements.{headerIn, frameStarts}
+use Rattle.bpg_frames.specs.Requirements.{headerIn, frameStarts, lastStarts, SetsDuration, SetsNone}
 use Rattle.bpg_frames.proofs.SaidLaws.{said-none, said-small}
 use Rattle.bpg_frames.proofs.Growth.{Sets, nothing-lasts, grown, grows}
+use Rattle.bpg_frames.proofs.NextFrame.{walk, keeps, sets, frame-at}
 use Rattle.bpg_frames.proofs.CallLaws.{frames-parts}
 
 module _ (f ds : List ℕ) (o : framesOf f ≡ ok ds) where
@@ -27,13 +30,16 @@ module _ (f ds : List ℕ) (o : framesOf f ≡ ok ds) where
   unfolding frameCount
   count-is = rw o
 
+  well : framesFrom (alphaIn f) (unitsIn f) nothing [] ≡ ok ds
+  well = frames-parts f ds o .1
+
   all-of : (P : ℕ → Type 0) (one : P 1) → All (Sets (alphaIn f) P one) (unitsIn f) → All P ds
   all-of P one s =
-      let g = grown (alphaIn f) P one (unitsIn f) nothing [] ds s (nothing-lasts (alphaIn f) P one) (frames-parts f ds o .1) in
+      let g = grown (alphaIn f) P one (unitsIn f) nothing [] ds s (nothing-lasts (alphaIn f) P one) well in
       subst (All P) (sym (g .is)) (g .each)
 
   pub starts-is : length ds ≡ frameStarts (unitsIn f)
-  starts-is = let g = grows (unitsIn f) (alphaIn f) nothing [] ds (frames-parts f ds o .1) in ap length (g .1) ∙ g .2
+  starts-is = let g = grows (unitsIn f) (alphaIn f) nothing [] ds well in ap length (g .1) ∙ g .2
 
   range-sets : (us : List Nal) → All (λ (u : Nal). All Byte (u .bytes)) us → All (Sets (alphaIn f) (λ d. (1 ≤ d) × (d ≤ 65535)) (omega arith, omega arith)) us
   range-sets [] b = tt
@@ -61,6 +67,26 @@ module _ (f ds : List ℕ) (o : framesOf f ≡ ok ds) where
 
   pub all-ones : All (λ (u : Nal). isPrefixSei (headerIn u) ≡ false) (unitsIn f) → All (λ d. d ≡ 1) ds
   all-ones h = all-of (λ d. d ≡ 1) refl (ones-set (unitsIn f) h)
+
+  -- a frame has a duration that was set before it, and 1 where none was
+  module _ (before : List Nal) (v : Nal) (after : List Nal) (b : startsFrame (v .bytes) ≡ true) where
+    pub next-lasts : (u : Nal) (between : List Nal) → unitsIn f ≡ before ++ (u ∷ (between ++ (v ∷ after))) → frameStarts between ≡ 0
+        → (d : ℕ) → SetsDuration u d → getD ds (frameStarts before) 0 ≡ d
+    next-lasts u between e z d h =
+        let g = walk (alphaIn f) before (u ∷ (between ++ (v ∷ after))) true nothing [] ds (λ _. refl) (rw e at well) in
+        let s = sets (alphaIn f) u (between ++ (v ∷ after)) (g .wait) (g .so-far) ds d h (g .left) in
+        let k = keeps (alphaIn f) between (v ∷ after) _ (g .so-far) ds (s .1) z (inl (s .0)) in
+        let n : frameStarts before ≡ length (g .so-far) = omega (arith, g .count) in
+        ap (λ (m : ℕ). getD ds m 0) n ∙ frame-at (alphaIn f) v after _ (g .so-far) ds b k ∙ select-false 1 d (ne-eqb d 0 (s .0))
+
+    pub alone-lasts : (between : List Nal) → unitsIn f ≡ before ++ (between ++ (v ∷ after)) → frameStarts between ≡ 0
+        → lastStarts true before ≡ true → All SetsNone between → getD ds (frameStarts before) 0 ≡ 1
+    alone-lasts between e z t h =
+        let g = walk (alphaIn f) before (between ++ (v ∷ after)) true nothing [] ds (λ _. refl) (rw e at well) in
+        let k = keeps (alphaIn f) between (v ∷ after) (g .wait) (g .so-far) ds (g .left) z (inr h) in
+        let n : frameStarts before ≡ length (g .so-far) = omega (arith, g .count) in
+        ap (λ (m : ℕ). getD ds m 0) n ∙ frame-at (alphaIn f) v after (g .wait) (g .so-far) ds b k
+        ∙ ap (λ (w : Waiting). lasting (w .duration)) (g .taken t) ∙ select-true 1 0 refl
 
   pub enough-is : enough (recordIn f .«animation_flag») (length ds) ≡ true
   enough-is = frames-parts f ds o .2

@@ -7,6 +7,7 @@ pub mod Growth
 pub mod CountLaws
 pub mod StoreLaws
 pub mod CallLaws
+pub mod NextFrame
 pub mod AllFrames
 pub mod RefusedAt
 pub mod Requirements

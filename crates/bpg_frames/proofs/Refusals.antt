@@ -18,11 +18,12 @@ use Rattle.bpg_frames.specs.declared.wait.Waiting.{Waiting}
 use Rattle.bpg_frames.specs.Units.{isSlice, isPrefixSei, allowedUnit, sliceSays, seiSays, otherSays, kindSays, unitSays}
 use Rattle.bpg_frames.specs.Frames.{settles, judged, refusedAt, waitAfter, timed, framesFrom}
 
-abbrev pub UnitStatus : ℕ → ℕ → Type 0
-UnitStatus s o = (22 ≤ s) × (s ≤ 24)
+-- a unit by itself
+abbrev pub OwnStatus : ℕ → ℕ → Type 0
+OwnStatus s o = (22 ≤ s) × (s ≤ 23)
 
 abbrev P : ℕ → ℕ → Type 0
-P = UnitStatus
+P = OwnStatus
 
 slice-refuses : (u : List ℕ) → Refuses P (sliceSays u)
 unfolding sliceSays
@@ -43,7 +44,7 @@ unfolding kindSays
 kind-refuses alpha u h =
     refuses-select P (isSlice h) _ _ (slice-refuses u) (refuses-select P (isPrefixSei h) _ _ (sei-refuses u) (other-refuses alpha h))
 
-unit-refuses : (alpha : Bool) (u : List ℕ) → Refuses P (unitSays alpha u)
+pub unit-refuses : (alpha : Bool) (u : List ℕ) → Refuses OwnStatus (unitSays alpha u)
 unfolding unitSays
 unit-refuses alpha u =
     let h = headerOf (getD u 0 0) (getD u 1 0) in
@@ -52,20 +53,24 @@ unit-refuses alpha u =
     (refuses-guard P (not (eqb (h .«nuh_temporal_id_plus1») 0)) 22 0 _ (omega arith, omega arith)
     (refuses-guard P (keepsRules u) 22 0 _ (omega arith, omega arith) (kind-refuses alpha u h))))
 
+-- with the durations that wait
+abbrev pub UnitStatus : ℕ → ℕ → Type 0
+UnitStatus s o = (22 ≤ s) × (s ≤ 24)
+
 pub judged-refuses : (alpha : Bool) (w : ℕ) (u : List ℕ) → Refuses UnitStatus (judged alpha w u)
 unfolding judged
 judged-refuses alpha w u =
-    refuses-bind P (unitSays alpha u) _ (unit-refuses alpha u) λ x.
-    refuses-guard P (settles w (x .durations)) 24 0 _ (omega arith, omega arith) (refuses-ok P x)
+    refuses-bind UnitStatus (unitSays alpha u) _ (λ s o e. let k = unit-refuses alpha u s o e in (k .0, omega (arith, k .1))) λ x.
+    refuses-guard UnitStatus (settles w (x .durations)) 24 0 _ (omega arith, omega arith) (refuses-ok UnitStatus x)
 
-at-refuses : {A : Type 0} (p : ℕ) (m : Outcome A) → Refuses P m → Refuses P (refusedAt p m)
-at-refuses p (ok a) h = refuses-ok P a
-at-refuses p (error s o) h = refuses-error P s p (h s o refl)
+at-refuses : {A : Type 0} (p : ℕ) (m : Outcome A) → Refuses UnitStatus m → Refuses UnitStatus (refusedAt p m)
+at-refuses p (ok a) h = refuses-ok UnitStatus a
+at-refuses p (error s o) h = refuses-error UnitStatus s p (h s o refl)
 
 pub frames-refuse : (us : List Nal) (alpha : Bool) (w : Waiting) (ds : List ℕ) → Refuses UnitStatus (framesFrom alpha us w ds)
 unfolding framesFrom
-frames-refuse [] alpha w ds = refuses-guard P (eqb (w .duration) 0) 24 (w .unit .0) _ (omega arith, omega arith) (refuses-ok P ds)
+frames-refuse [] alpha w ds = refuses-guard UnitStatus (eqb (w .duration) 0) 24 (w .unit .0) _ (omega arith, omega arith) (refuses-ok UnitStatus ds)
 frames-refuse (u ∷ us) alpha w ds =
-    refuses-bind P (refusedAt (u .start) (judged alpha (w .duration) (u .bytes))) _
+    refuses-bind UnitStatus (refusedAt (u .start) (judged alpha (w .duration) (u .bytes))) _
     (at-refuses (u .start) (judged alpha (w .duration) (u .bytes)) (judged-refuses alpha (w .duration) (u .bytes))) λ x.
     frames-refuse us alpha (waitAfter w (u .start) x) (timed w x ds)

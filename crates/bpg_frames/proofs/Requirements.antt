@@ -6,7 +6,7 @@ use mathlib.Core.Logic.{_⊎_, inl, inr, ⊎-elim, _≢_}
 use Prim.Native.Nat.{ℕ, _+_, _≤_, _<_}
 use native.Mathlib.Omega.{arith}
 use lib.Dec.{leb}
-use lib.ListN.{length, drop}
+use lib.ListN.{length, drop, getD}
 use lib.Seq.{take-append-seam, drop-append-seam}
 use borrow.Author.Tests.{eq-eqb, ne-eqb, le-leb, lt-leb, leb-true, eqb-true}
 use Rattle.bpg_codec.specs.Outcome.{Outcome, ok, error, _>>=_, guard}
@@ -20,9 +20,9 @@ use Rattle.bpg_frames.specs.declared.count.Frames.{Frames}
 use Rattle.bpg_frames.specs.Frames.{nothing, framesFrom, enough}
 use Rattle.bpg_frames.specs.Calls.{dataAt, alphaIn, unitsIn, framesOf, framesAnswer, frameCount, listOutcome, framesCall, framesList}
 use Rattle.bpg_frames.specs.Answers.{refusedFrames}
-use Rattle.bpg_frames.specs.Requirements.{Units, Count, durations, Durations, Refusals}
-use Rattle.bpg_frames.proofs.AllFrames.{count-is, starts-is, all-in-range, all-ones, enough-is}
-use Rattle.bpg_frames.proofs.RefusedAt.{AtUnit, refused-at}
+use Rattle.bpg_frames.specs.Requirements.{frameStarts, Units, Count, durations, Durations, FirstRefused, Refusals}
+use Rattle.bpg_frames.proofs.AllFrames.{count-is, starts-is, all-in-range, all-ones, next-lasts, alone-lasts, enough-is}
+use Rattle.bpg_frames.proofs.RefusedAt.{refused-at}
 use Rattle.bpg_frames.proofs.Refusals.{frames-refuse}
 use Rattle.bpg_frames.proofs.CallLaws.{data-is, not-zero, answer-zero, frames-parts}
 
@@ -93,6 +93,14 @@ durations-hold =
       range = λ f list b z.
           let d = list-zero f list z in
           subst (All (λ x. (1 ≤ x) × (x ≤ 65535))) (sym (durations-are f list (d .0) (d .1) (d .2))) (all-in-range f (d .0) (d .1) b);
+      next = λ f list z before u between v after e n b t s.
+          let d = list-zero f list z in
+          ap (λ (l : List ℕ). getD l (frameStarts before) 0) (durations-are f list (d .0) (d .1) (d .2))
+          ∙ next-lasts f (d .0) (d .1) before v after b u between e n t s;
+      alone = λ f list z before between v after e n b t s.
+          let d = list-zero f list z in
+          ap (λ (l : List ℕ). getD l (frameStarts before) 0) (durations-are f list (d .0) (d .1) (d .2))
+          ∙ alone-lasts f (d .0) (d .1) before v after b between e n t s;
       without-sei = λ f list z h.
           let d = list-zero f list z in
           subst (All (λ x. x ≡ 1)) (sym (durations-are f list (d .0) (d .1) (d .2))) (all-ones f (d .0) (d .1) h);
@@ -132,18 +140,19 @@ later f z = rw (eq-eqb (readFile f .status) 0 z) (by (framesFrom (alphaIn f) (un
     by (ok ds) e = counted ds (enough (recordIn f .«animation_flag») (length ds))
     by (error s p) e = λ n. inl (frames-refuse (unitsIn f) (alphaIn f) nothing [] s p e)
 
-at-unit : (f : List ℕ) → readFile f .status ≡ 0 → 22 ≤ frameCount f .status → frameCount f .status ≤ 24 → AtUnit (unitsIn f) (frameCount f .offset)
+at-unit : (f : List ℕ) → readFile f .status ≡ 0 → 22 ≤ frameCount f .status → frameCount f .status ≤ 24
+    → FirstRefused (alphaIn f) (unitsIn f) (frameCount f .status) (frameCount f .offset)
 unfolding frameCount framesOf
 at-unit f z = rw (eq-eqb (readFile f .status) 0 z) (by (framesFrom (alphaIn f) (unitsIn f) nothing []) refl)
   where
     counted : (ds : List ℕ) (b : Bool) → let x = framesAnswer (guard b 25 (dataAt f) >>= λ _. ok ds) in
-        22 ≤ x .status → x .status ≤ 24 → AtUnit (unitsIn f) (x .offset)
+        22 ≤ x .status → x .status ≤ 24 → FirstRefused (alphaIn f) (unitsIn f) (x .status) (x .offset)
     counted ds true h k = absurd (omega arith)
     counted ds false h k = absurd (omega arith)
 
     by : (o : Outcome (List ℕ)) → framesFrom (alphaIn f) (unitsIn f) nothing [] ≡ o
         → let x = framesAnswer (o >>= λ ds. guard (enough (recordIn f .«animation_flag») (length ds)) 25 (dataAt f) >>= λ _. ok ds) in
-        22 ≤ x .status → x .status ≤ 24 → AtUnit (unitsIn f) (x .offset)
+        22 ≤ x .status → x .status ≤ 24 → FirstRefused (alphaIn f) (unitsIn f) (x .status) (x .offset)
     by (ok ds) e = counted ds (enough (recordIn f .«animation_flag») (length ds))
     by (error s p) e = λ h k. ⊎-elim (λ a. a) (λ a. absurd (a .0 refl)) (refused-at (alphaIn f) (unitsIn f) nothing [] s p e)
 

@@ -30,7 +30,7 @@ module _ (alpha : Bool) (u : List ℕ) (h : NalHeader) (x : Said) (e : kindSays 
       (ap (λ (y : Said). y .starts) (sym q), ap (λ (y : Said). y .durations) (sym q), leb-true 3 (length u) (is-true _ a))
 
   module _ (n : isSlice h ≡ false) where
-    sei-said : isPrefixSei h ≡ true → (x .starts ≡ false) × (durationsIn (drop 2 (unescape u)) ≡ ok (x .durations))
+    pub sei-said : isPrefixSei h ≡ true → (x .starts ≡ false) × (durationsIn (drop 2 (unescape u)) ≡ ok (x .durations))
     unfolding seiSays
     sei-said s =
         unbind (durationsIn (drop 2 (unescape u))) _ (sym (kind-sei alpha u h n s) ∙ e) λ ds a b.

@@ -2,13 +2,14 @@
 use mathlib.Core.Path.{_≡_, refl, sym, ap, _∙_}
 use mathlib.Core.Bool.{Bool, true, false, not, _&&_}
 use mathlib.Core.List.{List, [], _∷_}
+use mathlib.Core.Logic.{_⊎_, inl, inr}
 use Prim.Native.Nat.{ℕ, suc, _≤_, _<_, _%_}
 use native.Mathlib.Omega.{arith}
 use lib.Dec.{eqb, leb}
 use lib.ListN.{length, drop, getD}
 use borrow.Author.Tests.{eq-eqb, ne-eqb, le-leb, lt-leb, leb-true, eqb-false}
 use Rattle.bpg_codec.specs.Outcome.{Outcome, ok, error, _>>=_, guard}
-use Rattle.bpg_codec.proofs.Outcome.{unbind, unguard}
+use Rattle.bpg_codec.proofs.Outcome.{ok-injective, error-not-ok, unbind, unguard}
 use Rattle.bpg_codec.proofs.Select.{select-true, select-false, is-true, is-false}
 use Rattle.bpg_nal_units.specs.declared.nal_header.NalHeader.{NalHeader}
 use Rattle.bpg_nal_units.specs.Headers.{headerOf}
@@ -195,3 +196,27 @@ judged-passed alpha w u x e =
     unbind (unitSays alpha u) _ e λ y a b.
     unguard (settles w (y .durations)) 24 0 _ b λ c d.
     a ∙ d
+
+-- and its durations clash with none
+pub judged-settles : (alpha : Bool) (w : ℕ) (u : List ℕ) (x : Said) → judged alpha w u ≡ ok x → settles w (x .durations) ≡ true
+unfolding judged
+judged-settles alpha w u x e =
+    unbind (unitSays alpha u) _ e λ y a b.
+    unguard (settles w (y .durations)) 24 0 _ b λ c d.
+    ap (λ (z : Said). settles w (z .durations)) (sym (ok-injective d)) ∙ is-true _ c
+
+-- one that is refused is refused by itself, or with 24
+pub judged-error : (alpha : Bool) (w : ℕ) (u : List ℕ) (s o : ℕ) → judged alpha w u ≡ error s o
+    → (unitSays alpha u ≡ error s o) ⊎ ((s ≡ 24) × ((x : Said) × (unitSays alpha u ≡ ok x)))
+unfolding judged
+judged-error alpha w u s o e = by (unitSays alpha u) refl e
+  where
+    clash : (x : Said) (b : Bool) → unitSays alpha u ≡ ok x → (guard b 24 0 >>= λ _. ok x) ≡ error s o
+        → (unitSays alpha u ≡ error s o) ⊎ ((s ≡ 24) × ((y : Said) × (unitSays alpha u ≡ ok y)))
+    clash x true f g = absurd (error-not-ok (sym g))
+    clash x false f g = inr ((let h = g in cc), (x, f))
+
+    by : (m : Outcome Said) → unitSays alpha u ≡ m → (m >>= λ x. guard (settles w (x .durations)) 24 0 >>= λ _. ok x) ≡ error s o
+        → (unitSays alpha u ≡ error s o) ⊎ ((s ≡ 24) × ((y : Said) × (unitSays alpha u ≡ ok y)))
+    by (ok x) f g = clash x (settles w (x .durations)) f g
+    by (error t p) f g = inl (f ∙ g)
