@@ -8,8 +8,10 @@ use native.Mathlib.Omega.{arith}
 use lib.Dec.{leb, leb→le}
 use lib.ListN.{length, take, drop, length-drop}
 use lib.Seq.{take-length}
-use borrow.Author.Tests.{le-leb}
+use native.Mathlib.Decide.{ℕ-discrete}
+use borrow.Author.Tests.{le-leb, eq-eqb, ne-eqb}
 use Rattle.bpg_codec.specs.Outcome.{ok, error, _>>=_}
+use Rattle.bpg_codec.proofs.Select.{select-true, select-false}
 use Rattle.bpg_codec.proofs.Answers.{refused-error, accepted-value}
 use Rattle.bpg_codec.proofs.Outcome.{unguard}
 use Rattle.bpg_format.specs.Limits.{maxFile}
@@ -19,12 +21,14 @@ use Rattle.bpg_format.specs.Rules.{hasAnimation}
 use Rattle.bpg_format.specs.Tests.{countsToEnd, dataAllowed}
 use Rattle.bpg_format.specs.Read.{Head, readBlock, readBody, readContent, ReadingStatus}
 use Rattle.bpg_format.specs.Records.{answerOf}
+use Rattle.bpg_format.proofs.RuleLaws.{by-tag}
 use Rattle.bpg_format.proofs.ReadingRefusals.{content-refuses}
 use Rattle.bpg_read_entries.specs.declared.block.Block.{Block}
 use Rattle.bpg_read_entries.specs.Blocks.{blockAnswer}
 use Rattle.bpg_read_headers.specs.declared.headers.HeadersReading.{HeadersReading}
 use Rattle.bpg_read_headers.specs.BothHeaders.{headersAnswer}
-use Rattle.bpg_reader.specs.Bodies.{HeadRead, headersStart, bodyContent}
+use Rattle.bpg_reader.specs.Bodies.{HeadRead, headersStart, bodyContent, stop, afterHeaders}
+use Rattle.bpg_reader.specs.declared.body.Stop.{Stop}
 use Rattle.bpg_reader.proofs.BodyChain.{headersOf, fromData, fromHeaders, afterBlock, headers-inside, body-chain}
 
 -- ---- the block
@@ -119,9 +123,38 @@ pub record BodyRead (file : List ℕ) (h : Head) (b : Block) (x : HeadersReading
 pub to-end : (file : List ℕ) (p : ℕ) → take (length file - p) (drop p file) ≡ drop p file
 to-end file p = rw (← length-drop p file) (take-length (drop p file))
 
-module _ {file : List ℕ} {h : Head} {b : Block} {x : HeadersReading} (k : HeadersRead file h b x) where
-  pub data-refused : dataAllowed (drop (x .next .0) file) ≡ false → refusedReading 26 (x .next .0) ≡ answerOf (readBody h (drop (h .end) file))
-  data-refused a = rw (k .left, a)
+module _ (file : List ℕ) (s o p : ℕ) where
+  pub stops-there : s ≢ 0 → stop s o ≡ afterHeaders file s o p
+  stops-there n = sym (select-false _ _ (ne-eqb s 0 n))
 
-  pub data-read : dataAllowed (drop (x .next .0) file) ≡ true → BodyRead file h b x
-  data-read a = record { block = k .block; inside = k .inside; left = k .left ∙ rw a }
+  module _ (z : s ≡ 0) where
+    pub data-stops : dataAllowed (drop p file) ≡ false → stop 26 p ≡ afterHeaders file s o p
+    data-stops a = sym (select-true _ _ (eq-eqb s 0 z) ∙ select-false _ _ a)
+
+    pub goes-on : dataAllowed (drop p file) ≡ true → stop 0 0 ≡ afterHeaders file s o p
+    goes-on a = sym (select-true _ _ (eq-eqb s 0 z) ∙ select-true _ _ a)
+
+module _ {file : List ℕ} {h : Head} {b : Block} (k : AtHeaders file h b) (x : HeadersReading) (e : x ≡ headersAnswer (headersOf file h))
+    (t : Stop) (w : t ≡ afterHeaders file (x .status) (x .offset .0) (x .next .0)) where
+  -- by whether the headers were refused, and the data
+  by-stop : {P : Type 0} → (x .status ≢ 0 → t ≡ stop (x .status) (x .offset .0) → P)
+      → (x .status ≡ 0 → dataAllowed (drop (x .next .0) file) ≡ false → t ≡ stop 26 (x .next .0) → P)
+      → (x .status ≡ 0 → dataAllowed (drop (x .next .0) file) ≡ true → t ≡ stop 0 0 → P) → P
+  by-stop f g j =
+      elim (ℕ-discrete (x .status) 0) [
+        | no n ↦ f n (w ∙ sym (stops-there file (x .status) (x .offset .0) (x .next .0) n))
+        | yes z ↦
+            by-tag (dataAllowed (drop (x .next .0) file))
+            (λ a. j z a (w ∙ sym (goes-on file (x .status) (x .offset .0) (x .next .0) z a)))
+            (λ a. g z a (w ∙ sym (data-stops file (x .status) (x .offset .0) (x .next .0) z a)))
+      ]
+
+  pub stopped : t .status ≢ 0 → refusedReading (t .status) (t .offset .0) ≡ answerOf (readBody h (drop (h .end) file))
+  stopped n =
+      by-stop (λ m q. rw q (headers-refused k x e m)) (λ z a q. rw (q, (headers-read k x e z) .left, a))
+      (λ z a q. absurd (n (ap (λ (y : Stop). y .status) q)))
+
+  pub body-known : t .status ≡ 0 → BodyRead file h b x
+  body-known z =
+      by-stop (λ m q. absurd (m (sym (ap (λ (y : Stop). y .status) q) ∙ z))) (λ y a q. absurd (omega (arith, z, ap (λ (y : Stop). y .status) q)))
+      (λ y a q. let r = headers-read k x e y in record { block = r .block; inside = r .inside; left = r .left ∙ rw a })

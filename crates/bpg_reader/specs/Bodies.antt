@@ -2,16 +2,21 @@
 use mathlib.Core.Path.{_≡_}
 use mathlib.Core.List.{List}
 use Prim.Native.Nat.{ℕ, _+_, _≤_}
-use lib.ListN.{length}
+use lib.Dec.{eqb}
+use lib.ListN.{length, drop}
+use Rattle.bpg_codec.specs.Select.{select}
 use Rattle.bpg_codec.specs.Outcome.{ok}
 use Rattle.bpg_codec.specs.Lawful.{All, Byte}
 use Rattle.bpg_ue7.specs.Ue7.{notZero}
+use Rattle.bpg_bytes.specs.Positions.{bytePos}
 use Rattle.bpg_format.specs.Limits.{maxFile}
 use Rattle.bpg_format.specs.declared.record.Header.{Header}
 use Rattle.bpg_format.specs.Content.{Extension, Content}
+use Rattle.bpg_format.specs.Tests.{dataAllowed}
 use Rattle.bpg_format.specs.Read.{Head, readHead, animationOf}
 use Rattle.bpg_read_head.specs.declared.head.Head.{Head as HeadReading}
 use Rattle.bpg_read_head.specs.FlagBytes.{flagFields}
+use Rattle.bpg_reader.specs.declared.body.Stop.{Stop}
 
 -- what a head that was read says
 abbrev pub headFields : HeadReading → Head
@@ -52,3 +57,10 @@ bodyContent h es alpha color bytes =
       colorHeader = color;
       hevcData = bytes;
     }
+
+abbrev pub stop : (status offset : ℕ) → Stop
+stop s o = record { status = s; offset = bytePos o }
+
+-- after headers that were refused with s at o, or read up to p: 26 at the first data byte
+abbrev pub afterHeaders : List ℕ → (s o p : ℕ) → Stop
+afterHeaders file s o p = select (eqb s 0) (select (dataAllowed (drop p file)) (stop 0 0) (stop 26 p)) (stop s o)

@@ -11,12 +11,13 @@ use bpg_read_head::head::Head;
 use bpg_read_headers::headers;
 ghost use mathlib.Core.Path.{_≡_};
 ghost use mathlib.Core.Bool.{not, _||_};
-ghost use lib.ListN.{drop};
+ghost use Prim.Native.Nat.{_≤_};
+ghost use lib.ListN.{length as count, drop};
 ghost use Rattle.bpg_format.specs.Tests.{countsToEnd};
 ghost use Rattle.bpg_format.specs.Read.{readBlock, readBody};
 ghost use Rattle.bpg_format.specs.Records.{answerOf};
 ghost use Rattle.bpg_read_entries.specs.Blocks.{blockAnswer};
-ghost use Rattle.bpg_reader.specs.Bodies.{headFields, HeadRead};
+ghost use Rattle.bpg_reader.specs.Bodies.{headFields, HeadRead, afterHeaders};
 
 // The entries of the extension block. Without the extension flag its length is 0.
 fn entries(file: &[u8], head: Head) -> Block
@@ -48,6 +49,34 @@ fn reaches_end(data_length: u32, size: usize) -> bool
     (data_length == 0) | (data_length as usize == size)
 }
 
+// Where reading stops, or status 0.
+pub struct Stop {
+    pub status: u8,
+    pub offset: BytePos,
+}
+
+// Refusal 26, at the first data byte, where the headers were not refused. One test then follows for both: where many branches lead to a
+// call, the compiler takes it for a rare one, and copies the parts of the record to it.
+fn after_headers(file: &[u8], status: u8, offset: BytePos, next: BytePos) -> Stop
+    requires { ⌜ (status ≡ 0 → next .0 ≤ count (now file)) ⌝ }
+    ensures { λ r. ⌜ r ≡ afterHeaders (now (file .entry)) status (offset .0) (next .0) ⌝ }
+{
+    if status != 0 {
+        return Stop { status, offset };
+    }
+    let start = next.0;
+    if !data_allowed(&file[start..]) {
+        return Stop {
+            status: 26,
+            offset: next,
+        };
+    }
+    Stop {
+        status: 0,
+        offset: BytePos(0),
+    }
+}
+
 // The body of a file whose head this is.
 pub(crate) fn read(file: &[u8], head: Head) -> Reading
     requires { ⌜ HeadRead (now file) (headFields head) ⌝ }
@@ -71,12 +100,9 @@ pub(crate) fn read(file: &[u8], head: Head) -> Reading
         alpha,
         head.flags.bit_depth_minus_8 + 8,
     );
-    if both.status != 0 {
-        return reading_refused(both.status, both.offset.0);
-    }
-    let start = both.next.0;
-    if !data_allowed(&file[start..]) {
-        return reading_refused(26, start);
+    let stop = after_headers(file, both.status, both.offset, both.next);
+    if stop.status != 0 {
+        return reading_refused(stop.status, stop.offset.0);
     }
     answer::assemble(file.len(), head, block, both)
 }

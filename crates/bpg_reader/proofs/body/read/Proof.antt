@@ -5,16 +5,14 @@ use mathlib.Core.List.{List}
 use Prim.Native.Nat.{ℕ}
 use native.Mathlib.Omega.{arith}
 use borrow.Author.Tests.{not-true, not-false}
-use lib.ListN.{drop}
 use Rattle.bpg_format.specs.Content.{bitDepth}
-use Rattle.bpg_format.specs.Tests.{dataAllowed}
 use Rattle.bpg_format.specs.Read.{Head}
 use Rattle.bpg_read_entries.specs.declared.block.Block.{Block}
 use Rattle.bpg_read_headers.specs.BothHeaders.{headersAnswer, headersIn}
 use Rattle.bpg_reader.specs.Bodies.{headFields, headersStart}
 use Rattle.bpg_reader.proofs.BodyChain.{headersOf}
-use Rattle.bpg_reader.proofs.BodyLaws.{BlockRead, block-refused, block-read, no-control, length-misses, AtHeaders, at-headers, HeadersRead, headers-refused, headers-read}
-use Rattle.bpg_reader.proofs.BodyLaws.{to-end, BodyRead, data-refused, data-read}
+use Rattle.bpg_reader.proofs.BodyLaws.{BlockRead, block-refused, block-read, no-control, length-misses, AtHeaders, at-headers, headers-read}
+use Rattle.bpg_reader.proofs.BodyLaws.{BodyRead, stopped, body-known}
 use Rattle.bpg_reader.proofs.BodyRecord.{min-cb-small, body-read}
 use borrow.Author.Needs.{needs}
 use Rattle.bpg_reader.proofs.body.read.Statement.{statement}
@@ -59,8 +57,18 @@ module _ (c : tie.After-read) where
       let e = entered (checked counted) in
       c .read .ensures ∙ ap (λ (t : Bool). headersAnswer (headersIn (file e) t (bitDepth (head e .flags)) (headersStart (head e)))) (c .before .before .has-alpha .ensures)
 
-after-headers : (c : tie.Else4) → let e = entered (checked (counted (c .before .before))) in HeadersRead (file e) (head e) (block e) (c .before .before .read .result)
-after-headers c = let r = c .before .before in headers-read (after-length (counted r)) (r .read .result) (headers-are r) (c .if4 .left)
+module _ (c : tie.After-after-headers) where
+  abbrev reading : tie.After-read
+  reading = c .before
+
+  abbrev begun : tie.After-entries
+  begun = entered (checked (counted reading))
+
+after-body : (c : tie.Else4) → let d = c .before .before in let e = begun d in BodyRead (file e) (head e) (block e) (reading d .read .result)
+after-body c =
+    let d = c .before .before in
+    let r = reading d in
+    body-known (after-length (counted r)) (r .read .result) (headers-are r) (d .after-headers .result) (d .after-headers .ensures) (c .if4 .left)
 
 -- ---- the answers
 
@@ -87,45 +95,21 @@ returns-3 c =
     c .reading-refused3 .ensures
     ∙ length-misses (after-block (k .before .before)) (controlled k) (sym (d .reaches-end .ensures) ∙ not-true _ (c .before .if3 .taken))
 
+after-headers-requires : tie.Need-after-headers-requires
+after-headers-requires c κs = λ z. headers-read (after-length (counted c)) (c .read .result) (headers-are c) z .inside
+
 returns-4 : tie.Need-returns-4
 returns-4 c =
-    let r = c .before .before .before in
-    c .reading-refused4 .ensures ∙ headers-refused (after-length (counted r)) (r .read .result) (headers-are r) (c .before .if4 .taken)
-
-sub-data-allowed : tie.Need-sub-data-allowed
-sub-data-allowed c = after-headers c .inside
-
-part-data-allowed-start : tie.Need-part-data-allowed-start
-part-data-allowed-start c = after-headers c .inside
-
-module _ (c : tie.After-data-allowed) where
-  abbrev read : tie.Else4
-  read = c .before .before
-
-  abbrev start : ℕ
-  start = read .before .before .read .result .next .0
-
-  abbrev whole : List ℕ
-  whole = file (entered (checked (counted (read .before .before))))
-
-  data-is : c .data-allowed .result ≡ dataAllowed (drop start whole)
-  data-is = c .data-allowed .ensures ∙ ap dataAllowed (to-end whole start)
-
-after-data : (c : tie.Else5) → let r = read (c .before) .before .before in let e = entered (checked (counted r)) in BodyRead (file e) (head e) (block e) (r .read .result)
-after-data c = data-read (after-headers (read (c .before))) (sym (data-is (c .before)) ∙ not-false _ (c .if5 .left))
-
-returns-5 : tie.Need-returns-5
-returns-5 c =
-    let d = c .before .before in
-    c .reading-refused5 .ensures ∙ data-refused (after-headers (read d)) (sym (data-is d) ∙ not-true _ (c .before .if5 .taken))
+    let d = c .before .before .before in
+    let r = reading d in
+    c .reading-refused4 .ensures
+    ∙ stopped (after-length (counted r)) (r .read .result) (headers-are r) (d .after-headers .result) (d .after-headers .ensures) (c .before .if4 .taken)
 
 assemble-requires : tie.Need-assemble-requires
-assemble-requires c κs = let k = after-data c in (k .block .head .short, (k .inside, min-cb-small k))
+assemble-requires c κs = let k = after-body c in (k .block .head .short, (k .inside, min-cb-small k))
 
-returns-6 : tie.Need-returns-6
-returns-6 c =
-    let r = read (c .before .before) .before .before in
-    c .assemble .ensures ∙ body-read (entered (checked (counted r)) .before .before .args .head) (after-data (c .before))
+returns-5 : tie.Need-returns-5
+returns-5 c = c .assemble .ensures ∙ body-read (begun (c .before .before .before) .before .before .args .head) (after-body (c .before))
 
 pub read-spec : {M : Type 1} → statement M
 read-spec =
@@ -146,13 +130,8 @@ read-spec =
     (λ c κs. search needs)
     (λ c. search needs)
     (λ c κs. search needs)
+    after-headers-requires
     (λ c κs. search needs)
     returns-4
-    sub-data-allowed
-    part-data-allowed-start
-    (λ c. search needs)
-    (λ c κs. search needs)
-    (λ c κs. search needs)
-    returns-5
     assemble-requires
-    returns-6)
+    returns-5)
