@@ -20,9 +20,9 @@ use Rattle.bpg_format.specs.Write.{writeOutcome, writtenAnswer, writtenBuffer, 
 use Rattle.bpg_export_list.specs.Numbers.{recordLength, numbersFit}
 use Rattle.bpg_export_list.specs.Calls.{listed, truncatedList, listStatus}
 use Rattle.bpg_export_list.proofs.ReadLaws.{status-of}
-use Rattle.bpg_reader.specs.declared.parts.EntryAt.{EntryAt}
-use Rattle.bpg_reader.specs.Entries.{entryAnswer}
-use Rattle.bpg_reader.proofs.PartLaws.{entry-in}
+use Rattle.bpg_parts.specs.declared.parts.EntryAt.{EntryAt}
+use Rattle.bpg_parts.specs.Entries.{entryAnswer}
+use Rattle.bpg_parts.proofs.PartLaws.{entry-in}
 use Rattle.bpg_export.specs.Calls.{readAnswer, readNumbers, listOutcome, writeAnswer, writeBytes}
 
 -- ---- reading

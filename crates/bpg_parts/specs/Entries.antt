@@ -5,7 +5,7 @@ use lib.Dec.{ltb}
 use Rattle.bpg_codec.specs.Select.{select}
 use Rattle.bpg_format.specs.Records.{readFile}
 use Rattle.bpg_format.specs.Parts.{entryOf}
-use Rattle.bpg_reader.specs.declared.parts.EntryAt.{EntryAt}
+use Rattle.bpg_parts.specs.declared.parts.EntryAt.{EntryAt}
 
 -- an index past the last entry has none; a refused file's count is 0
 abbrev pub entryAnswer : List ℕ → ℕ → EntryAt

@@ -5,9 +5,9 @@ use native.Mathlib.Omega.{arith}
 use lib.ListN.{length}
 use borrow.Author.Needs.{needs}
 use Rattle.bpg_format.specs.Rules.{Accepted}
-use Rattle.bpg_reader.proofs.BoundsLaws.{refused-bounds, block-inside, accepted-bounds}
-use Rattle.bpg_reader.proofs.bounds.block_bounds.Statement.{statement}
-use Rattle.bpg_reader.proofs.bounds.block_bounds.Tie as tie
+use Rattle.bpg_parts.proofs.BoundsLaws.{refused-bounds, block-inside, accepted-bounds}
+use Rattle.bpg_parts.proofs.bounds.block_bounds.Statement.{statement}
+use Rattle.bpg_parts.proofs.bounds.block_bounds.Tie as tie
 
 returns : tie.Need-returns
 returns c = let r = c .before .before in refused-bounds _ (r .read .result) (r .read .ensures .0) (c .if1 .taken)

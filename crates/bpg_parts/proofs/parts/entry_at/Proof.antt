@@ -3,10 +3,10 @@ use mathlib.Core.Path.{ap}
 use native.Mathlib.Omega.{arith}
 use Rattle.bpg_codec.proofs.Tokens.{all-bytes}
 use Rattle.bpg_format.specs.declared.answer.Reading.{Reading}
-use Rattle.bpg_reader.proofs.PartLaws.{entry-absent, entry-found, count-most}
+use Rattle.bpg_parts.proofs.PartLaws.{entry-absent, entry-found, count-most}
 use borrow.Author.Needs.{needs}
-use Rattle.bpg_reader.proofs.parts.entry_at.Statement.{statement}
-use Rattle.bpg_reader.proofs.parts.entry_at.Tie as tie
+use Rattle.bpg_parts.proofs.parts.entry_at.Statement.{statement}
+use Rattle.bpg_parts.proofs.parts.entry_at.Tie as tie
 
 returns : tie.Need-returns
 returns c = let r = c .before .before in entry-absent _ _ (r .read .result) (r .read .ensures .0) (c .if1 .taken)

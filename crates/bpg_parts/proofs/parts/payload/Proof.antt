@@ -5,10 +5,10 @@ use native.Mathlib.Omega.{arith}
 use Rattle.bpg_codec.proofs.Tokens.{all-bytes}
 use Rattle.bpg_format.specs.declared.record.Entry.{Entry}
 use Rattle.bpg_format.specs.Parts.{rangeEnd}
-use Rattle.bpg_reader.proofs.PartLaws.{payload-inside, payload-bytes}
+use Rattle.bpg_parts.proofs.PartLaws.{payload-inside, payload-bytes}
 use borrow.Author.Needs.{needs}
-use Rattle.bpg_reader.proofs.parts.payload.Statement.{statement}
-use Rattle.bpg_reader.proofs.parts.payload.Tie as tie
+use Rattle.bpg_parts.proofs.parts.payload.Statement.{statement}
+use Rattle.bpg_parts.proofs.parts.payload.Tie as tie
 
 part-result-end : tie.Need-part-result-end
 part-result-end c =

@@ -20,8 +20,8 @@ use Rattle.bpg_format.specs.Records.{recordOf, bytesIn, usedEntries, answerOf, 
 use Rattle.bpg_format.specs.Parts.{entryOf, payloadOf, dataOf, rangeEnd}
 use Rattle.bpg_format.proofs.ReadingLaws.{read-is}
 use Rattle.bpg_format.proofs.RangeLaws.{ranges-in-order, data-last, payload-part, parts-length}
-use Rattle.bpg_reader.specs.declared.parts.EntryAt.{EntryAt}
-use Rattle.bpg_reader.specs.Entries.{entryAnswer}
+use Rattle.bpg_parts.specs.declared.parts.EntryAt.{EntryAt}
+use Rattle.bpg_parts.specs.Entries.{entryAnswer}
 
 -- ---- an entry by its index
 

@@ -1,13 +1,13 @@
 // The parts of a file that its record names. Each part is a subslice of the caller's file: nothing is copied.
-use crate::file::read;
 use bpg_format::Entry;
 use bpg_format::zero_entry;
+use bpg_reader::read;
 ghost use mathlib.Core.Path.{_≡_};
 ghost use Prim.Native.Nat.{_+_};
 ghost use denote.Ref.{ptr};
 ghost use Rattle.bpg_format.specs.Records.{readFile};
 ghost use Rattle.bpg_format.specs.Parts.{entryOf, payloadOf, dataOf};
-ghost use Rattle.bpg_reader.specs.Entries.{entryAnswer};
+ghost use Rattle.bpg_parts.specs.Entries.{entryAnswer};
 
 // An entry of the extension block, or that there is none of that index.
 pub enum EntryAt {

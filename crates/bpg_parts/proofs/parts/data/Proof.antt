@@ -6,10 +6,10 @@ use Rattle.bpg_codec.proofs.Tokens.{all-bytes}
 use Rattle.bpg_format.specs.declared.answer.Reading.{Reading}
 use Rattle.bpg_format.specs.Parts.{rangeEnd}
 use Rattle.bpg_format.proofs.Typed.{data-fits}
-use Rattle.bpg_reader.proofs.PartLaws.{data-inside, data-bytes}
+use Rattle.bpg_parts.proofs.PartLaws.{data-inside, data-bytes}
 use borrow.Author.Needs.{needs}
-use Rattle.bpg_reader.proofs.parts.data.Statement.{statement}
-use Rattle.bpg_reader.proofs.parts.data.Tie as tie
+use Rattle.bpg_parts.proofs.parts.data.Statement.{statement}
+use Rattle.bpg_parts.proofs.parts.data.Tie as tie
 
 cast-result : tie.Need-cast-result
 cast-result c = record { fits = omega (arith, data-fits (c .before .before .before .read .result .«record») (c .struct-known2 .given)) }

@@ -8,7 +8,7 @@ use Rattle.bpg_format.specs.Content.{Content}
 use Rattle.bpg_format.specs.Syntax.{blockBytes}
 use Rattle.bpg_format.specs.Read.{readContent}
 use Rattle.bpg_format.specs.Records.{blockStart}
-use Rattle.bpg_reader.specs.declared.bounds.BlockBounds.{BlockBounds}
+use Rattle.bpg_parts.specs.declared.bounds.BlockBounds.{BlockBounds}
 
 abbrev pub bounds : (start end : ℕ) → BlockBounds
 bounds start end = record { start = bytePos start; end = bytePos end }

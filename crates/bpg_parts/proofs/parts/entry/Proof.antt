@@ -1,9 +1,9 @@
 -- `parts::entry` meets its contract.
 use mathlib.Core.Path.{sym, _∙_}
-use Rattle.bpg_reader.proofs.PartLaws.{entry-in}
+use Rattle.bpg_parts.proofs.PartLaws.{entry-in}
 use borrow.Author.Needs.{needs}
-use Rattle.bpg_reader.proofs.parts.entry.Statement.{statement}
-use Rattle.bpg_reader.proofs.parts.entry.Tie as tie
+use Rattle.bpg_parts.proofs.parts.entry.Statement.{statement}
+use Rattle.bpg_parts.proofs.parts.entry.Tie as tie
 
 returns : tie.Need-returns
 returns c =

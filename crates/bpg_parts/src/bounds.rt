@@ -1,9 +1,9 @@
 // Where the extension block of a file lies.
-use crate::file::read;
 use bpg_bytes::BytePos;
 use bpg_read_head::head;
+use bpg_reader::read;
 ghost use mathlib.Core.Path.{_≡_};
-ghost use Rattle.bpg_reader.specs.Bounds.{blockBounds};
+ghost use Rattle.bpg_parts.specs.Bounds.{blockBounds};
 
 // The offsets of the first entry and after the last.
 pub struct BlockBounds {
