@@ -11,7 +11,7 @@ use Rattle.bpg_codec.proofs.Select.{select-true, select-false}
 use Rattle.bpg_nal_units.specs.declared.cut.Cut.{Cut}
 use Rattle.bpg_nal_units.specs.Units.{units, bytesAt, cutAt}
 use Rattle.bpg_nal_units.proofs.Cases.{by-equal}
-use Rattle.bpg_nal_escape.specs.Emulation.{keepsRules}
+use Rattle.bpg_nal_emulation.specs.Emulation.{keepsRules}
 use Rattle.bpg_frames.specs.declared.kind.Verdict.{Verdict}
 use Rattle.bpg_frames.specs.declared.wait.Waiting.{Waiting}
 use Rattle.bpg_frames.specs.Frames.{judged, nothing, framesFrom}

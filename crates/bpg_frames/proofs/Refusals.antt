@@ -11,7 +11,7 @@ use Rattle.bpg_codec.proofs.Refusals.{Refuses, refuses-ok, refuses-error, refus
 use Rattle.bpg_nal_units.specs.declared.nal_header.NalHeader.{NalHeader}
 use Rattle.bpg_nal_units.specs.Headers.{headerOf}
 use Rattle.bpg_nal_units.specs.Units.{Nal}
-use Rattle.bpg_nal_escape.specs.Emulation.{unescape, keepsRules}
+use Rattle.bpg_nal_emulation.specs.Emulation.{unescape, keepsRules}
 use Rattle.bpg_sei.specs.Messages.{durationsIn}
 use Rattle.bpg_sei.proofs.Refusals.{durations-refuse}
 use Rattle.bpg_frames.specs.declared.wait.Waiting.{Waiting}

@@ -13,8 +13,8 @@ use Rattle.bpg_codec.proofs.Select.{is-true}
 use Rattle.bpg_codec.proofs.Tokens.{all-drop}
 use Rattle.bpg_nal_units.specs.declared.nal_header.NalHeader.{NalHeader}
 use Rattle.bpg_nal_units.proofs.Cases.{by-test}
-use Rattle.bpg_nal_escape.specs.Emulation.{unescape}
-use Rattle.bpg_nal_escape.proofs.WalkLaws.{un-all}
+use Rattle.bpg_nal_emulation.specs.Emulation.{unescape}
+use Rattle.bpg_nal_emulation.proofs.WalkLaws.{un-all}
 use Rattle.bpg_sei.specs.Messages.{durationsIn}
 use Rattle.bpg_sei.proofs.Range.{durations-small}
 use Rattle.bpg_frames.specs.Units.{Said, isSlice, isPrefixSei, allowedUnit, sliceSays, seiSays, otherSays, kindSays}

@@ -14,8 +14,8 @@ use Rattle.bpg_codec.proofs.Select.{select-true, select-false, is-true, is-fals
 use Rattle.bpg_nal_units.specs.declared.nal_header.NalHeader.{NalHeader}
 use Rattle.bpg_nal_units.specs.Headers.{headerOf}
 use Rattle.bpg_nal_units.proofs.Cases.{by-equal, one-answer, and-false}
-use Rattle.bpg_nal_escape.specs.Emulation.{zerosAfter, unescape, keepsRules, contentAt}
-use Rattle.bpg_nal_escape.proofs.WalkLaws.{zeros-byte, zeros-first, mark-no-zeros, un-byte}
+use Rattle.bpg_nal_emulation.specs.Emulation.{zerosAfter, unescape, keepsRules, contentAt}
+use Rattle.bpg_nal_emulation.proofs.WalkLaws.{zeros-byte, zeros-first, mark-no-zeros, un-byte}
 use Rattle.bpg_sei.specs.declared.messages.Sei.{Sei}
 use Rattle.bpg_sei.specs.Messages.{durationsIn}
 use Rattle.bpg_sei.specs.Steps.{lastOf, seiAnswer}

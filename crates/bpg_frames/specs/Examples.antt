@@ -8,7 +8,7 @@ use Rattle.bpg_codec.specs.Outcome.{Outcome, ok, error}
 use Rattle.bpg_codec.specs.Lawful.{All}
 use Rattle.bpg_nal_units.specs.Search.{offsetOf}
 use Rattle.bpg_nal_units.specs.Units.{trimByte, trimZeros, unitsUpTo, units}
-use Rattle.bpg_nal_escape.specs.Emulation.{zerosAfter, unescapeFrom, keepsRules}
+use Rattle.bpg_nal_emulation.specs.Emulation.{zerosAfter, unescapeFrom, keepsRules}
 use Rattle.bpg_sei.specs.Messages.{sumFrom, payloadOf, messageOf, ends, messagesUpTo}
 use Rattle.bpg_frames.specs.Units.{sliceSays, seiSays, otherSays, kindSays, unitSays}
 use Rattle.bpg_frames.specs.Frames.{judged, nothing, waitAfter, timed, framesFrom}

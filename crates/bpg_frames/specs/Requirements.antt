@@ -15,7 +15,7 @@ use Rattle.bpg_nal_units.specs.declared.nal_header.NalHeader.{NalHeader}
 use Rattle.bpg_nal_units.specs.Headers.{headerOf}
 use Rattle.bpg_nal_units.specs.Units.{Nal}
 use Rattle.bpg_nal_units.specs.Whole.{nth, Whole}
-use Rattle.bpg_nal_escape.specs.Emulation.{unescape}
+use Rattle.bpg_nal_emulation.specs.Emulation.{unescape}
 use Rattle.bpg_sei.specs.Messages.{durationsIn}
 use Rattle.bpg_frames.specs.Units.{Said, isPrefixSei, startsFrame, unitSays}
 use Rattle.bpg_frames.specs.Calls.{dataAt, alphaIn, unitsIn, frameCount, framesCall, framesList}

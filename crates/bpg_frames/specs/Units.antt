@@ -8,7 +8,7 @@ use Rattle.bpg_codec.specs.Select.{select}
 use Rattle.bpg_codec.specs.Outcome.{Outcome, ok, _>>=_, guard}
 use Rattle.bpg_nal_units.specs.declared.nal_header.NalHeader.{NalHeader}
 use Rattle.bpg_nal_units.specs.Headers.{headerOf}
-use Rattle.bpg_nal_escape.specs.Emulation.{unescape, keepsRules}
+use Rattle.bpg_nal_emulation.specs.Emulation.{unescape, keepsRules}
 use Rattle.bpg_sei.specs.Messages.{durationsIn}
 
 -- a unit says whether a frame starts in it, and sets durations for the frames after it

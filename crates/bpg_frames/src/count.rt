@@ -4,7 +4,7 @@ use crate::wait::Waiting;
 use crate::wait::nothing_waits;
 use crate::wait::wait_after;
 use bpg_bytes::BytePos;
-use bpg_nal_escape::scan_at;
+use bpg_nal_scan::scan_at;
 ghost use mathlib.Core.Path.{_≡_};
 ghost use Prim.Native.Nat.{_+_, _<_, _≤_, _^_};
 ghost use lib.ListN.{length};

@@ -5,7 +5,7 @@ use crate::kind::verdict_on;
 use bpg_nal_units::header;
 ghost use mathlib.Core.Bool.{true};
 ghost use mathlib.Core.Path.{_≡_};
-ghost use Rattle.bpg_nal_escape.specs.Emulation.{keepsRules};
+ghost use Rattle.bpg_nal_emulation.specs.Emulation.{keepsRules};
 ghost use Rattle.bpg_frames.specs.Units.{unitSays};
 ghost use Rattle.bpg_frames.specs.Frames.{judged};
 ghost use Rattle.bpg_frames.specs.Answers.{verdictOf, settlesBy};

@@ -8,8 +8,8 @@ use lib.ListN.{length}
 use borrow.Author.Needs.{needs}
 use borrow.Author.Tests.{not-true, not-false}
 use Rattle.bpg_nal_units.specs.Units.{bytesAt, cutAt}
-use Rattle.bpg_nal_escape.specs.Emulation.{keepsRules}
-use Rattle.bpg_nal_escape.proofs.ScanLaws.{says-broken, says-kept}
+use Rattle.bpg_nal_emulation.specs.Emulation.{keepsRules}
+use Rattle.bpg_nal_scan.proofs.ScanLaws.{says-broken, says-kept}
 use Rattle.bpg_frames.proofs.CountLaws.{Counting, counting, count-broken, count-kept, count-span, count-refused, count-last, count-more}
 use Rattle.bpg_frames.proofs.count.count_frames.Statement.{statement}
 use Rattle.bpg_frames.proofs.count.count_frames.Tie as tie
