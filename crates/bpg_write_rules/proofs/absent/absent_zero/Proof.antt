@@ -1,8 +1,8 @@
 -- `absent::absent_zero` meets its contract.
 use Rattle.bpg_format.specs.Write.{absentZero}
 use borrow.Author.Needs.{needs}
-use Rattle.bpg_header_rules.proofs.absent.absent_zero.Statement.{statement}
-use Rattle.bpg_header_rules.proofs.absent.absent_zero.Tie as tie
+use Rattle.bpg_write_rules.proofs.absent.absent_zero.Statement.{statement}
+use Rattle.bpg_write_rules.proofs.absent.absent_zero.Tie as tie
 
 returns : tie.Need-returns
 unfolding absentZero

@@ -2,8 +2,8 @@
 use mathlib.Core.Bool.{and-assoc}
 use Rattle.bpg_format.specs.Write.{headerZero}
 use borrow.Author.Needs.{needs}
-use Rattle.bpg_header_rules.proofs.absent.header_zero.Statement.{statement}
-use Rattle.bpg_header_rules.proofs.absent.header_zero.Tie as tie
+use Rattle.bpg_write_rules.proofs.absent.header_zero.Statement.{statement}
+use Rattle.bpg_write_rules.proofs.absent.header_zero.Tie as tie
 
 returns : tie.Need-returns
 unfolding headerZero

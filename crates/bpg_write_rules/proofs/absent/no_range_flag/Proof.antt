@@ -1,8 +1,8 @@
 -- `absent::no_range_flag` meets its contract.
-use Rattle.bpg_header_rules.proofs.FlagLaws.{nine-zero}
+use Rattle.bpg_write_rules.proofs.FlagLaws.{nine-zero}
 use borrow.Author.Needs.{needs}
-use Rattle.bpg_header_rules.proofs.absent.no_range_flag.Statement.{statement}
-use Rattle.bpg_header_rules.proofs.absent.no_range_flag.Tie as tie
+use Rattle.bpg_write_rules.proofs.absent.no_range_flag.Statement.{statement}
+use Rattle.bpg_write_rules.proofs.absent.no_range_flag.Tie as tie
 
 returns : tie.Need-returns
 returns c = search nine-zero

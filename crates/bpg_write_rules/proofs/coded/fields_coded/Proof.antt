@@ -1,8 +1,8 @@
 -- `coded::fields_coded` meets its contract.
 use mathlib.Core.Bool.{and-assoc}
 use Rattle.bpg_format.specs.Write.{fieldsCoded}
-use Rattle.bpg_header_rules.proofs.coded.fields_coded.Statement.{statement}
-use Rattle.bpg_header_rules.proofs.coded.fields_coded.Tie as tie
+use Rattle.bpg_write_rules.proofs.coded.fields_coded.Statement.{statement}
+use Rattle.bpg_write_rules.proofs.coded.fields_coded.Tie as tie
 
 returns : tie.Need-returns
 unfolding fieldsCoded
