@@ -24,8 +24,8 @@ use Rattle.bpg_format.specs.Records.{bytesIn, extensionOf, usedEntries}
 use Rattle.bpg_format.specs.Write.{inSource, entriesInSource, rangesInSource, isZero, zeroEntries, unusedZero, sameAnimation, atZero, checkAnimation, checkEntries, WritingStatus}
 use Rattle.bpg_format.proofs.RuleLaws.{bool-apart}
 use Rattle.bpg_format.proofs.WritingRefusals.{AtZero, R, rule, loop-check}
-use Rattle.bpg_read_entries.specs.declared.animation.Animation.{Animation}
-use Rattle.bpg_read_entries.specs.Animations.{animationAnswer}
+use Rattle.bpg_read_animation.specs.declared.animation.Animation.{Animation}
+use Rattle.bpg_read_animation.specs.Animations.{animationAnswer}
 use Rattle.bpg_write_check.specs.Check.{statusOf, animationNumbers, checkEntry}
 use Rattle.bpg_write_check.proofs.StatusLaws.{stops, goes-on}
 

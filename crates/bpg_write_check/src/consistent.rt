@@ -2,7 +2,7 @@
 use crate::entries;
 use bpg_format::Record;
 use bpg_format::has_alpha;
-use bpg_read_entries::animation;
+use bpg_read_animation::animation;
 use bpg_write_rules::absent;
 ghost use mathlib.Core.Path.{_≡_};
 ghost use mathlib.Core.List.{List};

@@ -6,7 +6,7 @@ ghost use mathlib.Core.Path.{_≡_};
 ghost use lib.ListN.{drop};
 ghost use Rattle.bpg_format.specs.Rules.{noAnimation};
 ghost use Rattle.bpg_format.specs.Read.{readAnimation};
-ghost use Rattle.bpg_read_entries.specs.Animations.{refusedAnimation, foundAnimation, animationAnswer};
+ghost use Rattle.bpg_read_animation.specs.Animations.{refusedAnimation, foundAnimation, animationAnswer};
 
 // Status 0 and the numbers; or a refusal and zeros.
 pub struct Animation {

@@ -3,7 +3,7 @@ use Prim.Native.Nat.{ℕ}
 use Rattle.bpg_codec.specs.Outcome.{Outcome, ok, error}
 use Rattle.bpg_bytes.specs.Positions.{bytePos}
 use Rattle.bpg_format.specs.Content.{AnimationControl}
-use Rattle.bpg_read_entries.specs.declared.animation.Animation.{Animation}
+use Rattle.bpg_read_animation.specs.declared.animation.Animation.{Animation}
 
 abbrev pub refusedAnimation : (status offset : ℕ) → Animation
 refusedAnimation s o = record { status = s; offset = bytePos o; «loop_count» = 0; «frame_period_num» = 0; «frame_period_den» = 0 }

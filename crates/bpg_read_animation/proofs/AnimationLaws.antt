@@ -15,8 +15,8 @@ use Rattle.bpg_ue7.proofs.Advances.{ue7-advances, ue7-limit}
 use Rattle.bpg_bytes.specs.Positions.{bytePos}
 use Rattle.bpg_format.specs.FileCodec.{period}
 use Rattle.bpg_format.specs.Read.{readAnimation}
-use Rattle.bpg_read_entries.specs.declared.animation.Animation.{Animation}
-use Rattle.bpg_read_entries.specs.Animations.{refusedAnimation, animationAnswer}
+use Rattle.bpg_read_animation.specs.declared.animation.Animation.{Animation}
+use Rattle.bpg_read_animation.specs.Animations.{refusedAnimation, animationAnswer}
 
 pub period-advances : Advances period
 unfolding period

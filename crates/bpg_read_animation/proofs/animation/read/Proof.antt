@@ -10,9 +10,9 @@ use Rattle.bpg_ue7.specs.Ue7.{ue7}
 use Rattle.bpg_ue7.proofs.Advances.{ue7-advances, ue7-limit}
 use Rattle.bpg_format.specs.FileCodec.{period}
 use Rattle.bpg_ue7.proofs.ReadAt.{value-read, refusal-read}
-use Rattle.bpg_read_entries.proofs.AnimationLaws.{period-advances, as-period, period-limit, count-refused, num-refused, den-refused, all-read}
-use Rattle.bpg_read_entries.proofs.animation.read.Statement.{statement}
-use Rattle.bpg_read_entries.proofs.animation.read.Tie as tie
+use Rattle.bpg_read_animation.proofs.AnimationLaws.{period-advances, as-period, period-limit, count-refused, num-refused, den-refused, all-read}
+use Rattle.bpg_read_animation.proofs.animation.read.Statement.{statement}
+use Rattle.bpg_read_animation.proofs.animation.read.Tie as tie
 
 -- the loop count was read
 module _ (c : tie.After-known-told2) where
