@@ -17,9 +17,9 @@ use Rattle.bpg_nal_units.specs.Units.{Nal}
 use Rattle.bpg_nal_units.specs.Whole.{nth, Whole}
 use Rattle.bpg_nal_emulation.specs.Emulation.{unescape}
 use Rattle.bpg_sei.specs.Messages.{durationsIn}
-use Rattle.bpg_frames.specs.Units.{Said, isPrefixSei, startsFrame, unitSays}
+use Rattle.bpg_frame_units.specs.Units.{Said, isPrefixSei, startsFrame, unitSays}
 use Rattle.bpg_frames.specs.Calls.{dataAt, alphaIn, unitsIn, frameCount, framesCall, framesList}
-use Rattle.bpg_frames.specs.Answers.{refusedFrames}
+use Rattle.bpg_frame_units.specs.Answers.{refusedFrames}
 
 abbrev pub headerIn : Nal → NalHeader
 headerIn u = headerOf (getD (u .bytes) 0 0) (getD (u .bytes) 1 0)
