@@ -1,8 +1,8 @@
 -- `ranges::all_in` meets its contract.
 use Rattle.bpg_format.specs.Write.{rangesInSource}
 use borrow.Author.Needs.{needs}
-use Rattle.bpg_write_check.proofs.ranges.all_in.Statement.{statement}
-use Rattle.bpg_write_check.proofs.ranges.all_in.Tie as tie
+use Rattle.bpg_record_entries.proofs.ranges.all_in.Statement.{statement}
+use Rattle.bpg_record_entries.proofs.ranges.all_in.Tie as tie
 
 returns : tie.Need-returns
 unfolding rangesInSource

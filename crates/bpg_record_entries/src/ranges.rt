@@ -1,9 +1,8 @@
 // Refusal 18: the ranges of a record lie in its source.
+use crate::used::used_count;
 use bpg_format::Range;
 use bpg_format::Record;
 ghost use mathlib.Core.Path.{_≡_};
-ghost use Prim.Native.Nat.{_≤_};
-ghost use Rattle.bpg_format.specs.Limits.{maxEntries};
 ghost use Rattle.bpg_format.specs.Records.{usedEntries};
 ghost use Rattle.bpg_format.specs.Write.{inSource, entriesInSource, rangesInSource};
 
@@ -16,11 +15,10 @@ fn is_in(range: Range, source: &[u8]) -> bool
 
 // The payloads of the entries in use.
 fn payloads_in(record: Record, source: &[u8]) -> bool
-    requires { ⌜ «record» .«entry_count» ≤ maxEntries ⌝ }
     ensures { λ r. ⌜ r ≡ entriesInSource (now (source .entry)) (usedEntries «record») ⌝ }
 {
     let entries = record.entries;
-    let count = record.entry_count as usize;
+    let count = used_count(record.entry_count);
     let mut k: usize = 0;
     while k < count {
         let entry = entries[k];
@@ -33,8 +31,7 @@ fn payloads_in(record: Record, source: &[u8]) -> bool
     true
 }
 
-pub(crate) fn all_in(record: Record, source: &[u8]) -> bool
-    requires { ⌜ «record» .«entry_count» ≤ maxEntries ⌝ }
+pub fn all_in(record: Record, source: &[u8]) -> bool
     ensures { λ r. ⌜ r ≡ rangesInSource (now (source .entry)) «record» ⌝ }
 {
     let data = record.data;

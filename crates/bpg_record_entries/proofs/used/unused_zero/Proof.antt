@@ -1,4 +1,4 @@
--- `entries::unused_zero` meets its contract.
+-- `used::unused_zero` meets its contract.
 use mathlib.Core.Path.{_≡_, refl, sym, _∙_}
 use Prim.Native.Nat.{_-_}
 use native.Mathlib.Omega.{arith}
@@ -7,10 +7,10 @@ use borrow.Author.Tests.{not-true, not-false}
 use Rattle.bpg_format.specs.Limits.{maxEntries}
 use Rattle.bpg_format.specs.Write.{zeroEntries, unusedZero}
 use Rattle.bpg_format.proofs.Typed.{entries-count}
-use Rattle.bpg_write_check.proofs.EntryLaws.{unused-begins, unused-set, unused-clear, all-clear}
+use Rattle.bpg_record_entries.proofs.UsedLaws.{unused-begins, unused-set, unused-clear, all-clear}
 use borrow.Author.Needs.{needs}
-use Rattle.bpg_write_check.proofs.entries.unused_zero.Statement.{statement}
-use Rattle.bpg_write_check.proofs.entries.unused_zero.Tie as tie
+use Rattle.bpg_record_entries.proofs.used.unused_zero.Statement.{statement}
+use Rattle.bpg_record_entries.proofs.used.unused_zero.Tie as tie
 
 abbrev Inv-loop : tie.InvT-loop
 Inv-loop entries k₀ k = zeroEntries (drop k entries) ≡ zeroEntries (drop k₀ entries)
