@@ -3,10 +3,10 @@ use Prim.Native.Nat.{_+_}
 use mathlib.Core.Path.{_≡_, ap, _∙_}
 use native.Mathlib.Omega.{arith}
 use lib.ListN.{length}
 use Rattle.bpg_ue7.specs.Ue7.{ue7Bytes}
 use Rattle.bpg_ue7.proofs.Ue7Laws.{high, high-zero, size-high, size-bytes, size-most}
-use Rattle.bpg_ue7.proofs.ue7.size.Statement.{statement}
-use Rattle.bpg_ue7.proofs.ue7.size.Tie as tie
+use Rattle.bpg_write_ue7.proofs.ue7.size.Statement.{statement}
+use Rattle.bpg_write_ue7.proofs.ue7.size.Tie as tie
 
 abbrev Inv-loop : tie.InvT-loop
 Inv-loop v left₀ count₀ left count = count + length (high left) ≡ length (ue7Bytes v)

@@ -9,10 +9,10 @@ use lib.ListN.{length, take, drop, set, length-set, take-append-drop}
 use lib.Seq.{take-set-le, take-take, drop-cons, drop-set-lt, getD-set-same, lt-length-set}
 use Rattle.bpg_codec.specs.Buffer.{splice}
 use Rattle.bpg_codec.proofs.Buffer.{stored, refused}
 use Rattle.bpg_ue7.specs.Ue7.{ue7Bytes}
 use Rattle.bpg_ue7.proofs.Ue7Laws.{high, high-zero, high-more, bytes-high, size-high, size-bytes, size-positive}
-use Rattle.bpg_ue7.proofs.ue7.write.Statement.{statement}
-use Rattle.bpg_ue7.proofs.ue7.write.Tie as tie
+use Rattle.bpg_write_ue7.proofs.ue7.write.Statement.{statement}
+use Rattle.bpg_write_ue7.proofs.ue7.write.Tie as tie
 
 abbrev Inv-loop : tie.InvT-loop
 Inv-loop out₀ v start count past next₀ left₀ out next left =
