@@ -1,5 +1,5 @@
 -- Request 1/13, in its own words and as types over the definitions that the calls' contracts cite. `proofs/Requirements` proves them.
--- Undoing and redoing are in `bpg_nal_escape/specs/RoundTrips`.
+-- Undoing and redoing are in `bpg_nal_emulation/specs/RoundTrips`.
 use mathlib.Core.Path.{_≡_}
 use mathlib.Core.Bool.{Bool, true, false}
 use mathlib.Core.List.{List, [], _∷_, _++_}
