@@ -3,7 +3,7 @@ mod batch;
 mod frames;
 mod thumbnails;
 
-use bpg_reader::EntryAt;
+use bpg_parts::EntryAt;
 pub use frames::bpg_escape;
 pub use frames::bpg_frame_count;
 pub use frames::bpg_frames;
@@ -44,7 +44,7 @@ pub extern "C" fn bpg_entry(
     ensures { λ _. ⌜ now (start .exit) ≡ entryOf (now (file .entry)) k .payload .start ⌝ }
     ensures { λ _. ⌜ now (length .exit) ≡ entryOf (now (file .entry)) k .payload .length ⌝ }
 {
-    match bpg_reader::entry_at(file, k) {
+    match bpg_parts::entry_at(file, k) {
         EntryAt::Absent => {
             *tag = 0;
             *start = 0;

@@ -1,7 +1,7 @@
 // How many bytes the parts of a file take. The sums are made in 64 bits: ranges may overlap, and a file may come out far too large.
 use bpg_format::Record;
 use bpg_format::has_alpha;
-use bpg_ue7::ue7;
+use bpg_write_ue7::ue7;
 ghost use mathlib.Core.Path.{_≡_};
 ghost use Prim.Native.Nat.{_≤_, _<_, _^_};
 ghost use Rattle.bpg_codec.specs.Select.{select};
