@@ -1,6 +1,6 @@
--- What writing answers, by the judging and by the size of the file.
+-- What writing answers, by the plan and the buffer.
 use mathlib.Core.Path.{_≡_, refl, sym, ap, _∙_}
-use mathlib.Core.Logic.{_↔_, _≢_}
+use mathlib.Core.Logic.{_↔_}
 use mathlib.Core.List.{List, _++_}
 use Prim.Native.Nat.{ℕ, _+_, _≤_, _<_}
 use native.Mathlib.Omega.{arith}
@@ -16,11 +16,10 @@ use Rattle.bpg_format.specs.declared.answer.Written.{Written}
 use Rattle.bpg_format.specs.Zero.{refusedWritten}
 use Rattle.bpg_format.specs.Syntax.{fileOf}
 use Rattle.bpg_format.specs.Records.{contentOf}
-use Rattle.bpg_format.specs.Write.{sizedFile, writeOutcome, writtenAnswer, writtenBuffer, writeFile, writeBuffer, checkRecord, Typed, Writable}
-use Rattle.bpg_format.proofs.Writing.{write-checks}
+use Rattle.bpg_format.specs.Write.{writeOutcome, writtenAnswer, writtenBuffer, writeFile, writeBuffer, writeSize, Typed, Writable}
 use Rattle.bpg_format.proofs.Requirements.{writing}
-use Rattle.bpg_write_check.specs.Check.{checkStatus}
-use Rattle.bpg_write_check.proofs.Judgement.{check-refuses}
+use Rattle.bpg_writer.specs.declared.plan.Plan.{Plan}
+use Rattle.bpg_writer.specs.Plans.{Ready}
 
 module _ (r : Record) (source out : List ℕ) where
   abbrev file : List ℕ
@@ -37,31 +36,33 @@ module _ (r : Record) (source out : List ℕ) where
   pub exact : Typed r → All Byte source → (w v : Written) (after : List ℕ) → w ≡ v → Answers v after → Exact w after
   exact t b w v after e a = rw (e ∙ a .0) (refl, (a .1, writing .exactly r source out t b))
 
-  refused : (s : ℕ) → writeOutcome (length out) r source ≡ error s 0 → Answers (refusedWritten s 0) out
+  pub refused : (s : ℕ) → writeOutcome (length out) r source ≡ error s 0 → Answers (refusedWritten s 0) out
   unfolding writeFile writeBuffer
   refused s e = (ap writtenAnswer (sym e), ap (λ (o : Outcome (List ℕ)). writtenBuffer o out) (sym e))
 
-  pub judged-out : (s : ℕ) → s ≡ checkStatus r source → s ≢ 0 → Answers (refusedWritten s 0) out
-  judged-out s e n = refused s (write-checks (length out) r source ∙ rw (check-refuses r source s (sym e) n))
+  module _ (p : Plan) (k : Ready r source p) where
+    pub too-small : length out < p .layout .total → Answers (refusedWritten 20 0) out
+    too-small h = refused 20 (k .only-small (length out) ∙ rw (lt-leb (length file) (length out) (omega (arith, h, k .total-is))))
 
-  module _ (passes : checkRecord r source ≡ ok tt) where
-    sized : writeOutcome (length out) r source ≡ sizedFile (length out) (contentOf r source)
-    sized = write-checks (length out) r source ∙ rw passes
+    pub file-written : p .layout .total ≤ length out → (after : List ℕ) → after ≡ written out 0 file → Answers (record { status = 0; offset = 0; count = p .layout .total }) after
+    unfolding writeFile writeBuffer
+    file-written h after e =
+        let is : writeOutcome (length out) r source ≡ ok file = k .only-small (length out) ∙ rw (le-leb (length file) (length out) (omega (arith, h, k .total-is))) in
+        let n : 0 + length file ≡ length file = omega arith in (
+          ap (λ (x : ℕ). record { status = 0; offset = 0; count = x }) (k .total-is) ∙ ap writtenAnswer (sym is),
+          e ∙ sym (stored out 0 file (omega (arith, h, k .total-is)) .0) ∙ ap (λ (k : ℕ). file ++ drop k out) n ∙ ap (λ (o : Outcome (List ℕ)). writtenBuffer o out) (sym is),
+        )
 
-    pub too-long : maxFile < length file → Answers (refusedWritten 1 0) out
-    unfolding sizedFile
-    too-long h = refused 1 (sized ∙ rw (lt-leb (length file) maxFile h))
+-- ---- before there is a buffer
 
-    module _ (short : length file ≤ maxFile) where
-      pub too-small : length out < length file → Answers (refusedWritten 20 0) out
-      unfolding sizedFile
-      too-small h = refused 20 (sized ∙ rw (le-leb (length file) maxFile short, lt-leb (length file) (length out) h))
+module _ (r : Record) (source : List ℕ) where
+  pub size-refused : (s : ℕ) → writeOutcome maxFile r source ≡ error s 0 → refusedWritten s 0 ≡ writeSize r source
+  unfolding writeSize
+  size-refused s e = ap writtenAnswer (sym e)
 
-      pub file-written : length file ≤ length out → (after : List ℕ) → after ≡ written out 0 file → Answers (record { status = 0; offset = 0; count = length file }) after
-      unfolding writeFile writeBuffer sizedFile
-      file-written h after e =
-          let is : writeOutcome (length out) r source ≡ ok file = sized ∙ rw (le-leb (length file) maxFile short, le-leb (length file) (length out) h) in
-          let n : 0 + length file ≡ length file = omega arith in (
-            ap writtenAnswer (sym is),
-            e ∙ sym (stored out 0 file (omega arith) .0) ∙ ap (λ (k : ℕ). file ++ drop k out) n ∙ ap (λ (o : Outcome (List ℕ)). writtenBuffer o out) (sym is),
-          )
+  pub size-is : (p : Plan) → Ready r source p → record { status = 0; offset = 0; count = p .layout .total } ≡ writeSize r source
+  unfolding writeSize
+  size-is p k =
+      let file = fileOf (contentOf r source) in
+      let is : writeOutcome maxFile r source ≡ ok file = k .only-small maxFile ∙ rw (le-leb (length file) maxFile (omega (arith, k .total-is, k .total-most))) in
+      ap (λ (x : ℕ). record { status = 0; offset = 0; count = x }) (k .total-is) ∙ ap writtenAnswer (sym is)

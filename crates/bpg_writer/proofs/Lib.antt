@@ -4,4 +4,5 @@ pub mod PutLaws
 pub mod PartLaws
 pub mod JudgedLaws
 pub mod SizeLaws
+pub mod PlanLaws
 pub mod FileLaws

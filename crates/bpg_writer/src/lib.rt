@@ -2,5 +2,7 @@
 mod emit;
 mod file;
 mod layout;
+mod plan;
 
+pub use file::size;
 pub use file::write;

@@ -1,4 +1,4 @@
--- `file::encoded` meets its contract.
+-- `plan::encoded` meets its contract.
 use mathlib.Core.Path.{_≡_, sym, ap, _∙_}
 use mathlib.Core.Bool.{Bool, false, true≢false}
 use native.Mathlib.Omega.{arith}
@@ -9,8 +9,8 @@ use Rattle.bpg_write_bits.proofs.BitBufferLaws.{gathered-most}
 use Rattle.bpg_format.specs.declared.record.Header.{Header}
 use Rattle.bpg_format.specs.Syntax.{headerBits}
 use Rattle.bpg_writer.specs.FileParts.{Encoded}
-use Rattle.bpg_writer.proofs.file.encoded.Statement.{statement}
-use Rattle.bpg_writer.proofs.file.encoded.Tie as tie
+use Rattle.bpg_writer.proofs.plan.encoded.Statement.{statement}
+use Rattle.bpg_writer.proofs.plan.encoded.Tie as tie
 
 -- of an absent header nothing is said
 absent : {t : Bool} {h : Header} {b : BitBuffer} → t ≡ false → Encoded t h b
