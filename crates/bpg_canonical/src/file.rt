@@ -1,8 +1,8 @@
-// Canonicalizing a file: read, a record with the canonical choices, written over the file's own bytes.
+// Canonicalizing a file: read, a record with the canonical choices, written or measured over the file's own bytes.
 use bpg_format::Written;
 use bpg_format::written_refused;
 ghost use mathlib.Core.Path.{_≡_};
-ghost use Rattle.bpg_format.specs.Pictures.{canonicalFile, canonicalBuffer};
+ghost use Rattle.bpg_format.specs.Pictures.{canonicalFile, canonicalBuffer, canonicalSize};
 
 // Writes the canonical form of a file from the start of `out`; a refusal leaves `out` as it is.
 pub fn canonicalize(file: &[u8], out: &mut [u8]) -> Written
@@ -16,4 +16,17 @@ pub fn canonicalize(file: &[u8], out: &mut [u8]) -> Written
     let found = reading.record;
     let canonical = bpg_canonical_record::canonical(found);
     bpg_writer::write(canonical, file, out)
+}
+
+// What `canonicalize` answers to a buffer that is large enough: how large it must be, or the refusal. Never 20.
+pub fn size(file: &[u8]) -> Written
+    ensures { λ r. ⌜ r ≡ canonicalSize (now (file .entry)) ⌝ }
+{
+    let reading = bpg_reader::read(file);
+    if reading.status != 0 {
+        return written_refused(reading.status, reading.offset);
+    }
+    let found = reading.record;
+    let canonical = bpg_canonical_record::canonical(found);
+    bpg_writer::size(canonical, file)
 }

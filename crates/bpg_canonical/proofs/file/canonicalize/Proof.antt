@@ -13,7 +13,7 @@ returns : tie.Need-returns
 returns c =
     let r = c .before .before .before in
     let s = r .before .before .before in
-    let a = refused (s .args .file .now) (s .args .out .now) (r .read .result) (r .read .ensures .0) (c .before .if1 .taken) in
+    let a = refused (s .args .file .now) (r .read .result) (r .read .ensures .0) (s .args .out .now) (c .before .if1 .taken) in
     (c .written-refused .ensures ∙ a .0, a .1)
 
 returns-2 : tie.Need-returns-2
@@ -26,8 +26,9 @@ returns-2 c =
     let file = s .args .file .now in
     let e1 = ap (λ (x : Record). writeFile x file (s .args .out .now)) (k .canonical .ensures) in
     let e2 = ap (λ (x : Record). writeBuffer x file (s .args .out .now)) (k .canonical .ensures) in
-    canonicalized file (s .args .out .now) (r .read .result) (r .read .ensures .0) (all-bytes file (λ i. omega (arith, r .before .before .shared-slice-known .given i))) (e .if1 .left) _ _
-    (w .write .ensures .0 ∙ e1) (w .write .ensures .1 .0 ∙ e2)
+    let a =
+    canonicalized file (r .read .result) (r .read .ensures .0) (s .args .out .now) (all-bytes file (λ i. omega (arith, r .before .before .shared-slice-known .given i))) (e .if1 .left) in
+    (w .write .ensures .0 ∙ e1 ∙ a .0, w .write .ensures .1 .0 ∙ e2 ∙ a .1)
 
 pub canonicalize-spec : {M : Type 1} → statement M
 canonicalize-spec =
