@@ -16,12 +16,15 @@ pub(crate) struct Layout {
     pub total: u64,
 }
 
-// The entries of the extension block.
+// The entries of the extension block. Without any, their array is not copied for the loop.
 fn block_size(record: Record) -> u64
     requires { ⌜ «record» .«entry_count» ≤ maxEntries ⌝ }
     ensures { λ r. ⌜ r ≡ entriesSize (usedEntries «record») ⌝ }
     ensures { λ r. ⌜ r < 2 ^ 48 ⌝ }
 {
+    if record.entry_count == 0 {
+        return 0;
+    }
     let entries = record.entries;
     let count = record.entry_count as usize;
     let mut size: u64 = 0;

@@ -1,5 +1,5 @@
 -- `layout::block_size` meets its contract: the size so far is that of the entries so far.
-use mathlib.Core.Path.{_≡_, refl, ap, _∙_}
+use mathlib.Core.Path.{_≡_, refl, sym, ap, _∙_}
 use Prim.Native.Nat.{ℕ, _-_, _*_, _≤_}
 use native.Mathlib.Omega.{arith}
 use lib.ListN.{length, take, getD}
@@ -30,7 +30,7 @@ whole c = search entries-count
 -- an entry was measured
 module _ (c : tie.After-size2 Inv-loop μ-loop) where
   abbrev start : tie.Start Inv-loop μ-loop
-  start = c .before .before .before .before .before .before .before .before .before
+  start = c .before .before .before .before .before .before .before .before .before .before .before
 
   abbrev turn : tie.At-loop Inv-loop μ-loop
   turn = c .before .before .before .before .before .before
@@ -44,14 +44,17 @@ module _ (c : tie.After-size2 Inv-loop μ-loop) where
   length-size : c .size2 .result ≤ 10
   length-size = omega (arith, c .size2 .ensures, size-most (entry .payload .length) (omega arith))
 
+returns : tie.Need-returns Inv-loop μ-loop
+returns c = (ap (λ (n : ℕ). entriesSize (take n (c .before .before .args .«record» .entries))) (sym (c .if1 .taken)), omega arith)
+
 loop-holds : tie.Need-loop-holds Inv-loop μ-loop
 loop-holds c = (omega arith, refl, omega arith)
 
 mul-entry : tie.Need-mul-entry Inv-loop μ-loop
-mul-entry c = omega (arith, c .before .before .before .before .pre)
+mul-entry c = omega (arith, c .before .before .before .before .before .before .pre)
 
 array-copy-out-entry : tie.Need-array-copy-out-entry Inv-loop μ-loop
-array-copy-out-entry c = omega (arith, c .before .before .before .before .pre)
+array-copy-out-entry c = omega (arith, c .before .before .before .before .before .before .pre)
 
 add-size : tie.Need-add-size Inv-loop μ-loop
 add-size c = omega (arith, tag-size c, length-size c)
@@ -68,12 +71,12 @@ loop-again c =
     let n = entries-next (start c .args .«record» .entries) (l .k) (omega (arith, whole (start c), start c .pre)) in
     (omega arith, omega (arith, n, l .inv .1, c .before .size .ensures, c .size2 .ensures), omega (arith, tag-size c, length-size c, l .inv .2))
 
-returns : tie.Need-returns Inv-loop μ-loop
-returns c =
+returns-2 : tie.Need-returns-2 Inv-loop μ-loop
+returns-2 c =
     let l = c .before .loop in
-    let r = c .before .before .before .before .args .«record» in
+    let r = c .before .before .before .before .before .before .args .«record» in
     let e : l .k ≡ r .«entry_count» = omega (arith, c .loop-test .left, l .inv .0) in
-    (l .inv .1 ∙ ap (λ (n : ℕ). entriesSize (take n (r .entries))) e, omega (arith, l .inv .2, e, c .before .before .before .before .pre))
+    (l .inv .1 ∙ ap (λ (n : ℕ). entriesSize (take n (r .entries))) e, omega (arith, l .inv .2, e, c .before .before .before .before .before .before .pre))
 
 pub block-size-spec : {M : Type 1} → statement M
 block-size-spec =
@@ -81,6 +84,7 @@ block-size-spec =
     (tie.spec
     Inv-loop
     μ-loop
+    returns
     (λ c. search needs)
     loop-holds
     mul-entry
@@ -95,4 +99,4 @@ block-size-spec =
     (λ c. search needs)
     (λ c. omega arith)
     loop-again
-    returns)
+    returns-2)
