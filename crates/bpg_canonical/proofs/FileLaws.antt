@@ -1,12 +1,14 @@
 -- What canonicalizing answers: the reader's refusals, then what writing the canonical record over the file answers.
 use mathlib.Core.Path.{_≡_, refl, sym, ap, _∙_, subst}
 use mathlib.Core.Logic.{_≢_}
+use mathlib.Core.Bool.{Bool, true, false}
 use mathlib.Core.List.{List}
 use Prim.Native.Nat.{ℕ, _≤_}
 use native.Mathlib.Omega.{arith}
 use lib.Dec.{leb}
 use lib.ListN.{length}
 use borrow.Author.Tests.{le-leb}
+use Rattle.bpg_codec.specs.Select.{select}
 use Rattle.bpg_codec.specs.Outcome.{Outcome, ok, error, _>>=_, guard}
 use Rattle.bpg_codec.specs.Lawful.{All, Byte}
 use Rattle.bpg_codec.proofs.Answers.{refused-error, accepted-value}
@@ -76,25 +78,18 @@ module _ (file : List ℕ) (reading : Reading) (read : reading ≡ readFile file
       ∙ written-canonical c (known .0) capacity
       ∙ rw e)
 
-  -- into a buffer: the answer, and the buffer after it
+  -- the answer and the buffer, of sizing or of writing
   module _ (out : List ℕ) where
-    abbrev Answers : Written → List ℕ → Type 0
-    Answers w after = (w ≡ canonicalFile file out) × (after ≡ canonicalBuffer file out)
+    abbrev Answers : (sizing : Bool) → Written → List ℕ → Type 0
+    Answers t w after = (w ≡ select t (canonicalSize file) (canonicalFile file out)) × (after ≡ select t out (canonicalBuffer file out))
 
-    pub refused : reading .status ≢ 0 → Answers (refusedWritten (reading .status) (reading .offset)) out
-    unfolding canonicalFile canonicalBuffer
-    refused n = let e = refused-outcome n (length out) in (ap writtenAnswer (sym e), ap (λ (o : Outcome (List ℕ)). writtenBuffer o out) (sym e))
+    pub refused : (t : Bool) → reading .status ≢ 0 → Answers t (refusedWritten (reading .status) (reading .offset)) out
+    unfolding select canonicalSize canonicalFile canonicalBuffer
+    refused true n = (ap writtenAnswer (sym (refused-outcome n maxFile)), refl)
+    refused false n = let e = refused-outcome n (length out) in (ap writtenAnswer (sym e), ap (λ (o : Outcome (List ℕ)). writtenBuffer o out) (sym e))
 
-    pub canonicalized : All Byte file → reading .status ≡ 0
-        → Answers (writeFile (canonicalRecord (reading .«record»)) file out) (writeBuffer (canonicalRecord (reading .«record»)) file out)
-    unfolding canonicalFile canonicalBuffer writeFile writeBuffer
-    canonicalized bytes z = let e = outcome bytes z (length out) in (ap writtenAnswer e, ap (λ (o : Outcome (List ℕ)). writtenBuffer o out) e)
-
-  -- before there is one
-  pub size-refused : reading .status ≢ 0 → refusedWritten (reading .status) (reading .offset) ≡ canonicalSize file
-  unfolding canonicalSize
-  size-refused n = ap writtenAnswer (sym (refused-outcome n maxFile))
-
-  pub size-is : All Byte file → reading .status ≡ 0 → writeSize (canonicalRecord (reading .«record»)) file ≡ canonicalSize file
-  unfolding canonicalSize writeSize
-  size-is bytes z = ap writtenAnswer (outcome bytes z maxFile)
+    pub canonicalized : (t : Bool) → All Byte file → reading .status ≡ 0
+        → let r = canonicalRecord (reading .«record») in Answers t (select t (writeSize r file) (writeFile r file out)) (select t out (writeBuffer r file out))
+    unfolding select canonicalSize canonicalFile canonicalBuffer writeSize writeFile writeBuffer
+    canonicalized true bytes z = (ap writtenAnswer (outcome bytes z maxFile), refl)
+    canonicalized false bytes z = let e = outcome bytes z (length out) in (ap writtenAnswer e, ap (λ (o : Outcome (List ℕ)). writtenBuffer o out) e)

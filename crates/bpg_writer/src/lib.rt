@@ -6,3 +6,4 @@ mod plan;
 
 pub use file::size;
 pub use file::write;
+pub use file::write_or_size;
