@@ -21,8 +21,8 @@ use Rattle.bpg_format.specs.Syntax.{fileOf}
 use Rattle.bpg_format.specs.Records.{contentOf}
 use Rattle.bpg_format.specs.Write.{writeOutcome, writtenAnswer, writtenBuffer, writeFile, writeBuffer, writeSize, Typed, Writable}
 use Rattle.bpg_format.proofs.Requirements.{writing}
-use Rattle.bpg_writer.specs.declared.plan.Plan.{Plan}
-use Rattle.bpg_writer.specs.Plans.{Ready}
+use Rattle.bpg_write_plan.specs.declared.plan.Plan.{Plan}
+use Rattle.bpg_write_plan.specs.Plans.{Ready}
 
 -- a success of so many bytes
 abbrev success : ℕ → Written

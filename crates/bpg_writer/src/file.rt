@@ -1,12 +1,10 @@
 // Writing a file in two passes: the first judges and measures and changes nothing, the second writes.
 use crate::emit;
-use crate::layout;
-use crate::plan;
-use crate::plan::Plan;
 use bpg_format::Record;
 use bpg_format::Written;
 use bpg_format::has_alpha;
 use bpg_format::written_refused;
+use bpg_write_plan::Plan;
 ghost use mathlib.Core.Path.{_≡_};
 ghost use mathlib.Core.Logic.{_↔_};
 ghost use Prim.Native.Nat.{_≤_};
@@ -16,7 +14,7 @@ ghost use Rattle.bpg_codec.specs.Buffer.{written as writtenAt};
 ghost use Rattle.bpg_format.specs.Syntax.{fileOf};
 ghost use Rattle.bpg_format.specs.Records.{contentOf};
 ghost use Rattle.bpg_format.specs.Write.{writeFile, writeBuffer, writeSize, Writable};
-ghost use Rattle.bpg_writer.specs.Plans.{Ready};
+ghost use Rattle.bpg_write_plan.specs.Plans.{Ready};
 
 // The whole file, part by part, into a buffer that holds it.
 fn emit_file(out: &mut [u8], record: Record, source: &[u8], plan: Plan)
@@ -24,7 +22,7 @@ fn emit_file(out: &mut [u8], record: Record, source: &[u8], plan: Plan)
     requires { ⌜ length (fileOf (contentOf «record» (now source))) ≤ length (now out) ⌝ }
     ensures { λ _. ⌜ now (out .exit) ≡ writtenAt (now (out .entry)) 0 (fileOf (contentOf «record» (now (source .entry)))) ⌝ }
 {
-    let data_length = layout::data_length(record.explicit_length, plan.layout.headers_and_data);
+    let data_length = bpg_write_plan::data_length(record.explicit_length, plan.layout.headers_and_data);
     let p = emit::head(out, record, data_length as u32);
     let q = emit::block(out, p, record, source, plan.layout.block as u32);
     let plane = has_alpha(record.alpha1_flag, record.alpha2_flag);
@@ -48,7 +46,7 @@ pub fn write_or_size(record: Record, source: &[u8], sizing: bool, out: &mut [u8]
     ensures { λ r. ⌜ r ≡ select sizing (writeSize «record» (now (source .entry))) (writeFile «record» (now (source .entry)) (now (out .entry))) ⌝ }
     ensures { λ r. ⌜ now (out .exit) ≡ select sizing (now (out .entry)) (writeBuffer «record» (now (source .entry)) (now (out .entry))) ⌝ }
 {
-    let plan = plan::prepare(record, source);
+    let plan = bpg_write_plan::prepare(record, source);
     if plan.status != 0 {
         return written_refused(plan.status, 0);
     }

@@ -1,8 +1,6 @@
-// Writing a record as the file that the syntax gives: judged and measured first, and then written.
+// Writing a record as the file that the syntax gives: planned first, and then written.
 mod emit;
 mod file;
-mod layout;
-mod plan;
 
 pub use file::size;
 pub use file::write;

@@ -8,7 +8,7 @@ use lib.ListN.{length, length-append}
 use Rattle.bpg_codec.specs.Select.{select}
 use Rattle.bpg_codec.specs.Buffer.{written}
 use Rattle.bpg_format.specs.Limits.{maxFile}
-use Rattle.bpg_writer.specs.FileParts.{headPart, blockPart, headersAndDataPart}
+use Rattle.bpg_write_plan.specs.FileParts.{headPart, blockPart, headersAndDataPart}
 use Rattle.bpg_writer.proofs.PutLaws.{Put, put-end, put-same, put-then}
 use borrow.Author.Needs.{needs}
 use Rattle.bpg_writer.proofs.file.emit_file.Statement.{statement}

@@ -6,7 +6,7 @@ use native.Mathlib.Omega.{arith}
 use borrow.Author.Needs.{needs}
 use Rattle.bpg_format.specs.declared.record.Record.{Record}
 use Rattle.bpg_format.specs.declared.answer.Written.{Written}
-use Rattle.bpg_writer.specs.Plans.{Ready}
+use Rattle.bpg_write_plan.specs.Plans.{Ready}
 use Rattle.bpg_writer.proofs.FileLaws.{Answers, refused, sized, too-small, file-written}
 use Rattle.bpg_writer.proofs.file.write_or_size.Statement.{statement}
 use Rattle.bpg_writer.proofs.file.write_or_size.Tie as tie

@@ -23,7 +23,7 @@ use Rattle.bpg_format.specs.Write.{entriesInSource, inSource, rangesInSource, u
 use Rattle.bpg_format.proofs.HeaderRuleLaws.{hevc-sound}
 use Rattle.bpg_format.proofs.WriteLaws.{or-test}
 use Rattle.bpg_format.proofs.Writing.{empty-is, in-source-sound}
-use Rattle.bpg_writer.specs.FileParts.{RangeInside}
+use Rattle.bpg_write_plan.specs.FileParts.{RangeInside}
 
 pub record Judged (r : Record) (source : List ℕ) : Type 0 where
   pub few : r .«entry_count» ≤ maxEntries

@@ -1,8 +1,8 @@
 -- `layout::data_length` meets its contract.
 use mathlib.Core.Path.{sym}
 use Rattle.bpg_codec.proofs.Select.{select-true, select-false}
-use Rattle.bpg_writer.proofs.layout.data_length.Statement.{statement}
-use Rattle.bpg_writer.proofs.layout.data_length.Tie as tie
+use Rattle.bpg_write_plan.proofs.layout.data_length.Statement.{statement}
+use Rattle.bpg_write_plan.proofs.layout.data_length.Tie as tie
 
 returns : tie.Need-returns
 returns c = sym (select-true _ _ (c .if1 .taken))

@@ -7,10 +7,10 @@ ghost use Prim.Native.Nat.{_≤_, _<_, _^_};
 ghost use Rattle.bpg_codec.specs.Select.{select};
 ghost use Rattle.bpg_format.specs.Limits.{maxEntries};
 ghost use Rattle.bpg_format.specs.Records.{usedEntries};
-ghost use Rattle.bpg_writer.specs.Layouts.{entriesSize, extensionSize, headerSize, layoutOf};
+ghost use Rattle.bpg_write_plan.specs.Layouts.{entriesSize, extensionSize, headerSize, layoutOf};
 
 // The extension block, the headers with the data, and the whole file.
-pub(crate) struct Layout {
+pub struct Layout {
     pub block: u64,
     pub headers_and_data: u64,
     pub total: u64,
@@ -64,7 +64,7 @@ fn header_size(present: bool, bits: usize) -> u64
 }
 
 // The data length as it is coded: 0 for "to the end of the file".
-pub(crate) fn data_length(explicit: bool, headers_and_data: u64) -> u64
+pub fn data_length(explicit: bool, headers_and_data: u64) -> u64
     ensures { λ r. ⌜ r ≡ select explicit «headers_and_data» 0 ⌝ }
 {
     if explicit {

@@ -22,13 +22,13 @@ use Rattle.bpg_format.specs.Write.{sizedFile, writeOutcome, checkRecord}
 use Rattle.bpg_format.proofs.Writing.{write-checks}
 use Rattle.bpg_write_check.specs.Check.{checkStatus}
 use Rattle.bpg_write_check.proofs.Judgement.{check-passes, check-refuses}
-use Rattle.bpg_writer.specs.declared.layout.Layout.{Layout}
-use Rattle.bpg_writer.specs.declared.plan.Plan.{Plan}
-use Rattle.bpg_writer.specs.Layouts.{layoutOf}
-use Rattle.bpg_writer.specs.FileParts.{Encoded, filePart}
-use Rattle.bpg_writer.specs.Plans.{Ready, Planned}
-use Rattle.bpg_writer.proofs.JudgedLaws.{Judged, judged}
-use Rattle.bpg_writer.proofs.SizeLaws.{entries-measured, file-is, total-measured, block-inside}
+use Rattle.bpg_write_plan.specs.declared.layout.Layout.{Layout}
+use Rattle.bpg_write_plan.specs.declared.plan.Plan.{Plan}
+use Rattle.bpg_write_plan.specs.Layouts.{layoutOf}
+use Rattle.bpg_write_plan.specs.FileParts.{Encoded, filePart}
+use Rattle.bpg_write_plan.specs.Plans.{Ready, Planned}
+use Rattle.bpg_write_plan.proofs.JudgedLaws.{Judged, judged}
+use Rattle.bpg_write_plan.proofs.SizeLaws.{entries-measured, file-is, total-measured, block-inside}
 
 -- status 1, or 0
 abbrev lengthStatus : (total : ℕ) → ℕ

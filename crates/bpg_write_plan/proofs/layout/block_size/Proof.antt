@@ -9,10 +9,10 @@ use Rattle.bpg_format.specs.Limits.{maxEntries}
 use Rattle.bpg_format.specs.declared.record.Entry.{Entry}
 use Rattle.bpg_format.specs.Zero.{zeroEntry}
 use Rattle.bpg_format.proofs.Typed.{entries-count}
-use Rattle.bpg_writer.specs.Layouts.{entriesSize}
-use Rattle.bpg_writer.proofs.LayoutLaws.{entries-next}
-use Rattle.bpg_writer.proofs.layout.block_size.Statement.{statement}
-use Rattle.bpg_writer.proofs.layout.block_size.Tie as tie
+use Rattle.bpg_write_plan.specs.Layouts.{entriesSize}
+use Rattle.bpg_write_plan.proofs.LayoutLaws.{entries-next}
+use Rattle.bpg_write_plan.proofs.layout.block_size.Statement.{statement}
+use Rattle.bpg_write_plan.proofs.layout.block_size.Tie as tie
 
 -- an entry takes no more
 abbrev most : ℕ

@@ -6,8 +6,8 @@ use Rattle.bpg_codec.specs.Bits.{bytesFor}
 use Rattle.bpg_codec.proofs.Select.{select-true, select-false}
 use Rattle.bpg_ue7.proofs.Ue7Laws.{size-most}
 use borrow.Author.Needs.{needs}
-use Rattle.bpg_writer.proofs.layout.header_size.Statement.{statement}
-use Rattle.bpg_writer.proofs.layout.header_size.Tie as tie
+use Rattle.bpg_write_plan.proofs.layout.header_size.Statement.{statement}
+use Rattle.bpg_write_plan.proofs.layout.header_size.Tie as tie
 
 few : (c : tie.After-size) → c .size .result ≤ 10
 few c = omega (arith, c .size .ensures, size-most (bytesFor (c .before .before .args .bits)) (omega (arith, c .before .before .pre)))

@@ -7,7 +7,7 @@ use lib.ListN.{length, take, getD}
 use lib.Seq.{take-suc}
 use Rattle.bpg_format.specs.declared.record.Entry.{Entry}
 use Rattle.bpg_format.specs.Zero.{zeroEntry}
-use Rattle.bpg_writer.specs.Layouts.{sizeOf, entriesSize}
+use Rattle.bpg_write_plan.specs.Layouts.{sizeOf, entriesSize}
 
 entries-append : (es fs : List Entry) → entriesSize (es ++ fs) ≡ entriesSize es + entriesSize fs
 entries-append [] fs = omega arith

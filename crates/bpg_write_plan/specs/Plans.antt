@@ -12,8 +12,8 @@ use Rattle.bpg_format.specs.declared.record.Record.{Record}
 use Rattle.bpg_format.specs.Syntax.{fileOf}
 use Rattle.bpg_format.specs.Records.{usedEntries, contentOf}
 use Rattle.bpg_format.specs.Write.{writeOutcome}
-use Rattle.bpg_writer.specs.declared.plan.Plan.{Plan}
-use Rattle.bpg_writer.specs.FileParts.{RangeInside, entriesPart, filePart}
+use Rattle.bpg_write_plan.specs.declared.plan.Plan.{Plan}
+use Rattle.bpg_write_plan.specs.FileParts.{RangeInside, entriesPart, filePart}
 
 -- of a record that is written if the buffer holds its file
 pub record Ready (r : Record) (source : List ℕ) (p : Plan) : Type 0 where

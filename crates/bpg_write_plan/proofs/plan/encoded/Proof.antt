@@ -8,9 +8,9 @@ use Rattle.bpg_write_bits.specs.declared.BitBuffer.{BitBuffer}
 use Rattle.bpg_write_bits.proofs.BitBufferLaws.{gathered-most}
 use Rattle.bpg_format.specs.declared.record.Header.{Header}
 use Rattle.bpg_format.specs.Syntax.{headerBits}
-use Rattle.bpg_writer.specs.FileParts.{Encoded}
-use Rattle.bpg_writer.proofs.plan.encoded.Statement.{statement}
-use Rattle.bpg_writer.proofs.plan.encoded.Tie as tie
+use Rattle.bpg_write_plan.specs.FileParts.{Encoded}
+use Rattle.bpg_write_plan.proofs.plan.encoded.Statement.{statement}
+use Rattle.bpg_write_plan.proofs.plan.encoded.Tie as tie
 
 -- of an absent header nothing is said
 absent : {t : Bool} {h : Header} {b : BitBuffer} → t ≡ false → Encoded t h b

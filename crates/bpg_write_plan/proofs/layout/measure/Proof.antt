@@ -6,9 +6,9 @@ use native.Mathlib.Omega.{arith}
 use borrow.Author.Needs.{needs}
 use Rattle.bpg_codec.specs.Select.{select}
 use Rattle.bpg_ue7.proofs.Ue7Laws.{size-most}
-use Rattle.bpg_writer.specs.Layouts.{sizeOf, extensionSize, headerSize, headersAndDataSize}
-use Rattle.bpg_writer.proofs.layout.measure.Statement.{statement}
-use Rattle.bpg_writer.proofs.layout.measure.Tie as tie
+use Rattle.bpg_write_plan.specs.Layouts.{sizeOf, extensionSize, headerSize, headersAndDataSize}
+use Rattle.bpg_write_plan.proofs.layout.measure.Statement.{statement}
+use Rattle.bpg_write_plan.proofs.layout.measure.Tie as tie
 
 -- the sizes of width and height
 module _ (c : tie.After-size2) where

@@ -13,11 +13,11 @@ ghost use Prim.Native.Nat.{_≤_};
 ghost use lib.Dec.{ltb};
 ghost use Rattle.bpg_codec.specs.Select.{select};
 ghost use Rattle.bpg_format.specs.Limits.{maxFile};
-ghost use Rattle.bpg_writer.specs.FileParts.{Encoded};
-ghost use Rattle.bpg_writer.specs.Plans.{Planned};
+ghost use Rattle.bpg_write_plan.specs.FileParts.{Encoded};
+ghost use Rattle.bpg_write_plan.specs.Plans.{Planned};
 
 // Status 0, or a refusal number; of a refused record the rest says nothing.
-pub(crate) struct Plan {
+pub struct Plan {
     pub status: u8,
     pub layout: Layout,
     pub alpha: BitBuffer,
@@ -62,7 +62,7 @@ fn refused(status: u8) -> Plan
 }
 
 // Judges a record, whose ranges are in `source`, encodes its headers and measures its file. No buffer is looked at, so 20 is not among the refusals.
-pub(crate) fn prepare(record: Record, source: &[u8]) -> Plan
+pub fn prepare(record: Record, source: &[u8]) -> Plan
     ensures { λ r. ⌜ Planned «record» (now (source .entry)) r ⌝ }
 {
     let status = judge::record(record, source);

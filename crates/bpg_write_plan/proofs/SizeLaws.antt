@@ -1,10 +1,11 @@
--- What is measured is the length of the file, and what is written is the file.
+-- What is measured is the length of the file, and its parts are the file.
 use mathlib.Core.Path.{_≡_, refl, sym, ap, ap₂, _∙_}
 use mathlib.Core.Bool.{Bool, true, false, _||_}
 use mathlib.Core.List.{List, [], _∷_, _++_, map, append-assoc}
 use Prim.Native.Nat.{ℕ, _+_, _≤_}
 use native.Mathlib.Omega.{arith}
-use lib.ListN.{length, getD, length-append}
+use lib.ListN.{length, drop, getD, length-append, length-drop}
+use lib.Seq.{length-take-le}
 use Rattle.bpg_codec.specs.Select.{select}
 use Rattle.bpg_codec.specs.Lawful.{All}
 use Rattle.bpg_codec.specs.Bits.{bytesFor, padded}
@@ -13,6 +14,7 @@ use Rattle.bpg_ue7.specs.Ue7.{ue7Bytes}
 use Rattle.bpg_write_bits.specs.declared.BitBuffer.{BitBuffer}
 use Rattle.bpg_write_bits.specs.BitBuffer.{bufferBytes}
 use Rattle.bpg_write_bits.proofs.BitBufferLaws.{gathered-fits, gathered-bytes}
+use Rattle.bpg_format.specs.declared.record.Range.{Range}
 use Rattle.bpg_format.specs.declared.record.Entry.{Entry}
 use Rattle.bpg_format.specs.declared.record.Header.{Header}
 use Rattle.bpg_format.specs.declared.record.Record.{Record}
@@ -20,10 +22,13 @@ use Rattle.bpg_format.specs.Zero.{zeroHeader}
 use Rattle.bpg_format.specs.Rules.{HevcRules}
 use Rattle.bpg_format.specs.Syntax.{blockBytes, extensionBytes, extensionPart, headerBits, headerBytes, headersAndData, dataLength, fileOf}
 use Rattle.bpg_format.specs.Records.{bytesIn, extensionOf, usedEntries, contentOf}
-use Rattle.bpg_writer.specs.Layouts.{entriesSize, extensionSize, headerSize, headersAndDataSize, layoutOf}
-use Rattle.bpg_writer.specs.FileParts.{Encoded, RangeInside, headPart, entriesPart, blockPart, headerPart, headersAndDataPart, filePart}
-use Rattle.bpg_writer.proofs.PartLaws.{range-length}
-use Rattle.bpg_writer.proofs.JudgedLaws.{Judged}
+use Rattle.bpg_write_plan.specs.Layouts.{entriesSize, extensionSize, headerSize, headersAndDataSize, layoutOf}
+use Rattle.bpg_write_plan.specs.FileParts.{Encoded, RangeInside, headPart, entriesPart, blockPart, headerPart, headersAndDataPart, filePart}
+use Rattle.bpg_write_plan.proofs.JudgedLaws.{Judged}
+
+-- a range in its source has its length
+pub range-length : (source : List ℕ) (r : Range) → r .start + r .length ≤ length source → length (bytesIn source r) ≡ r .length
+range-length source r h = length-take-le (r .length) (drop (r .start) source) (omega (arith, length-drop (r .start) source))
 
 -- ---- the entries
 

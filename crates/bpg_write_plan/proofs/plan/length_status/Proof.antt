@@ -2,8 +2,8 @@
 use mathlib.Core.Path.{sym}
 use borrow.Author.Tests.{lt-ltb, le-ltb}
 use Rattle.bpg_codec.proofs.Select.{select-true, select-false}
-use Rattle.bpg_writer.proofs.plan.length_status.Statement.{statement}
-use Rattle.bpg_writer.proofs.plan.length_status.Tie as tie
+use Rattle.bpg_write_plan.proofs.plan.length_status.Statement.{statement}
+use Rattle.bpg_write_plan.proofs.plan.length_status.Tie as tie
 
 returns : tie.Need-returns
 returns c = sym (select-true 1 0 (lt-ltb _ _ (c .if1 .taken)))

@@ -10,10 +10,10 @@ use Rattle.bpg_format.specs.declared.record.Record.{Record}
 use Rattle.bpg_format.specs.Zero.{zeroHeader}
 use Rattle.bpg_format.proofs.Typed.{headers-count}
 use Rattle.bpg_write_check.proofs.ConsistentLaws.{header-at}
-use Rattle.bpg_writer.specs.FileParts.{Encoded}
-use Rattle.bpg_writer.proofs.PlanLaws.{judged-out, record-known, planned}
-use Rattle.bpg_writer.proofs.plan.prepare.Statement.{statement}
-use Rattle.bpg_writer.proofs.plan.prepare.Tie as tie
+use Rattle.bpg_write_plan.specs.FileParts.{Encoded}
+use Rattle.bpg_write_plan.proofs.PlanLaws.{judged-out, record-known, planned}
+use Rattle.bpg_write_plan.proofs.plan.prepare.Statement.{statement}
+use Rattle.bpg_write_plan.proofs.plan.prepare.Tie as tie
 
 -- the headers were encoded
 module _ (c : tie.After-encoded2) where

@@ -9,7 +9,7 @@ use Rattle.bpg_ue7.specs.Ue7.{ue7Bytes}
 use Rattle.bpg_format.specs.declared.record.Entry.{Entry}
 use Rattle.bpg_format.specs.declared.record.Record.{Record}
 use Rattle.bpg_format.specs.Records.{usedEntries}
-use Rattle.bpg_writer.specs.declared.layout.Layout.{Layout}
+use Rattle.bpg_write_plan.specs.declared.layout.Layout.{Layout}
 
 -- how many bytes a number takes
 abbrev pub sizeOf : ℕ → ℕ

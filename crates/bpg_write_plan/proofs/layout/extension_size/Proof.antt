@@ -5,8 +5,8 @@ use native.Mathlib.Omega.{arith}
 use Rattle.bpg_codec.proofs.Select.{select-true, select-false}
 use Rattle.bpg_ue7.proofs.Ue7Laws.{size-most}
 use borrow.Author.Needs.{needs}
-use Rattle.bpg_writer.proofs.layout.extension_size.Statement.{statement}
-use Rattle.bpg_writer.proofs.layout.extension_size.Tie as tie
+use Rattle.bpg_write_plan.proofs.layout.extension_size.Statement.{statement}
+use Rattle.bpg_write_plan.proofs.layout.extension_size.Tie as tie
 
 few : (c : tie.After-size) → c .size .result ≤ 10
 few c = omega (arith, c .size .ensures, size-most (c .before .before .args .block) (omega (arith, c .before .before .pre)))
