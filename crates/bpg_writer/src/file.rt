@@ -22,7 +22,10 @@ fn emit_file(out: &mut [u8], record: Record, source: &[u8], plan: Plan)
     requires { ⌜ length (fileOf (contentOf «record» (now source))) ≤ length (now out) ⌝ }
     ensures { λ _. ⌜ now (out .exit) ≡ writtenAt (now (out .entry)) 0 (fileOf (contentOf «record» (now (source .entry)))) ⌝ }
 {
-    let data_length = bpg_write_plan::data_length(record.explicit_length, plan.layout.headers_and_data);
+    let data_length = bpg_write_plan::data_length(
+        record.explicit_length,
+        plan.layout.headers_and_data,
+    );
     let p = emit::head(out, record, data_length as u32);
     let q = emit::block(out, p, record, source, plan.layout.block as u32);
     let plane = has_alpha(record.alpha1_flag, record.alpha2_flag);
