@@ -19,7 +19,7 @@ use Rattle.bpg_format.specs.Content.{Extension, AnimationControl}
 use Rattle.bpg_format.specs.Rules.{isAnimation}
 use Rattle.bpg_format.specs.Read.{readAnimation}
 use Rattle.bpg_format.specs.Records.{bytesIn, extensionOf, usedEntries}
-use Rattle.bpg_format.specs.Write.{inSource, entriesInSource, rangesInSource, sameAnimation, atZero, checkAnimation, checkEntries, WritingStatus}
+use Rattle.bpg_format.specs.Write.{inSource, entriesInSource, rangesInSource, sameAnimation, atZero, checkAnimation, checkEntries, SizingStatus}
 use Rattle.bpg_format.proofs.RuleLaws.{bool-apart}
 use Rattle.bpg_format.proofs.WritingRefusals.{AtZero, R, rule, loop-check}
 use Rattle.bpg_read_animation.specs.declared.animation.Animation.{Animation}
@@ -88,7 +88,7 @@ module _ (p : AnimationControl) (l : List ℕ) where
       decided : (t : Bool) → sameAnimation p (animationNumbers a) ≡ t → statusOf (guard t 19 0) ≡ statusOf (checkAnimation p l)
       decided t s =
           read-or-refused (λ x c f. sym (rw (c, sym (λ i. sameAnimation p (animationNumbers (f i))) ∙ s)))
-          (λ s o c f. absurd (subst WritingStatus (sym (ap (λ (y : Animation). y .status) f) ∙ z) (loop-check p l s 0 c .0)))
+          (λ s o c f. absurd (subst SizingStatus (sym (ap (λ (y : Animation). y .status) f) ∙ z) (loop-check p l s 0 c .0)))
 
       pub loop-differs : sameAnimation p (animationNumbers a) ≡ false → 19 ≡ statusOf (checkAnimation p l)
       loop-differs s = decided false s

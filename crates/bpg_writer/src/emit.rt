@@ -15,7 +15,7 @@ ghost use Rattle.bpg_format.specs.Limits.{maxEntries};
 ghost use Rattle.bpg_format.specs.Syntax.{byte4 as byteFour, byte5 as byteFive, extensionBytes};
 ghost use Rattle.bpg_codec.specs.Lawful.{All};
 ghost use Rattle.bpg_format.specs.Records.{extensionOf, usedEntries, recordFlags};
-ghost use Rattle.bpg_writer.specs.FileParts.{headPart, RangeInside, entriesPart, blockPart, headerPart, headersAndDataPart};
+ghost use Rattle.bpg_write_plan.specs.FileParts.{headPart, RangeInside, entriesPart, blockPart, headerPart, headersAndDataPart};
 
 fn bit(b: bool) -> u8
     ensures { λ r. ⌜ (r ≡ bitOf b) × (r < 2) ⌝ }
