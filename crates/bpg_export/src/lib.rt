@@ -1,6 +1,7 @@
 // The library for C and Rust: numbers and slices alone. include/bpg.h declares these functions for C.
 mod batch;
 mod frames;
+mod sizes;
 mod thumbnails;
 
 use bpg_parts::EntryAt;
@@ -8,6 +9,8 @@ pub use frames::bpg_escape;
 pub use frames::bpg_frame_count;
 pub use frames::bpg_frames;
 pub use frames::bpg_unescape;
+pub use sizes::bpg_canonical_size;
+pub use sizes::bpg_write_size;
 pub use thumbnails::bpg_check_thumbnails;
 ghost use mathlib.Core.Path.{_≡_};
 ghost use lib.Dec.{ltb};
