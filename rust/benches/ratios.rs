@@ -9,11 +9,13 @@ mod race;
 #[allow(dead_code)]
 mod random;
 mod sample;
+mod table;
 
 use std::hint::black_box;
 
 use race::Race;
 use sample::Marks;
+use table::{heading, row, row_copying, row_over};
 
 const SIZES: [(&str, usize); 3] = [("1 KiB", 1 << 10), ("64 KiB", 1 << 16), ("16 MiB", 1 << 24)];
 
@@ -24,36 +26,35 @@ const MARKS: [(&str, Marks); 3] = [
 ];
 
 fn main() {
-    println!("Times are medians in ns a call. Ratios are medians over rounds in which each takes its turn;");
-    println!(
-        "above 1 the library is slower. Every byte of the buffers was touched before; they are not"
-    );
-    println!("cleared between calls. `list`: the C call, a record being a list of numbers. `frame_count`,");
-    println!("`frames`: of 16 MiB; many frames: one in 64 bytes. Marks are two zero bytes and one of at most 3; few:");
-    println!("one in 4 KiB; many: one in 13 bytes.");
+    println!("Times are medians in ns a call. Ratios are medians over rounds in which each takes its turn; above 1 the");
+    println!("library is slower. Every byte of the buffers was touched before. `bpg_read`, `bpg_write`: the calls for C, a");
+    println!("record being a list of numbers; `bpg::read` and the like: those of the Rust package. Marks are two zero bytes and");
+    println!("one of at most 3: few are one in 4 KiB, many one in 13 bytes. Many frames: one in 64 bytes.");
     println!();
-    println!("                              library      plain  ratio");
+    heading();
     for entries in [0, 3, 16] {
         for alpha in [false, true] {
             reading(entries, alpha);
         }
     }
-    reading_sizes();
     batch();
-    println!();
-    println!("                              library      plain  ratio     memcpy  ratio");
     for (name, size) in SIZES {
+        writing_list(name, size);
+        writing(name, size);
         canonicalizing(name, size);
     }
-    for (name, size) in SIZES {
-        writing(name, size);
-        writing_list(name, size);
-    }
-    counting_frames("few zeros", Marks::Few);
-    counting_frames("many zeros", Marks::Many);
+    measuring();
+    counting_frames("few marks", Marks::Few);
+    counting_frames("many marks", Marks::Many);
     timing_frames("still", &sample::still(Marks::Few, 1 << 24));
-    timing_frames("16", &sample::animation(Marks::Few, 1 << 20, 1 << 24));
-    timing_frames("many", &sample::animation(Marks::None, 1 << 6, 1 << 24));
+    timing_frames(
+        "16 frames",
+        &sample::animation(Marks::Few, 1 << 20, 1 << 24),
+    );
+    timing_frames(
+        "many frames",
+        &sample::animation(Marks::None, 1 << 6, 1 << 24),
+    );
     for (name, size) in &SIZES[1..] {
         for (marks_name, marks) in MARKS {
             let name = format!("{name}, {marks_name}");
@@ -61,6 +62,7 @@ fn main() {
             escaping(&name, &sample::bytes(marks, *size));
         }
     }
+    reading_sizes();
 }
 
 fn reading(entries: usize, alpha: bool) {
@@ -78,7 +80,7 @@ fn reading(entries: usize, alpha: bool) {
             },
         ],
     );
-    show_two(&format!("read list, {name}"), &lists);
+    row("bpg_read", &name, &lists);
     let records = Race::run::<()>(
         &mut [],
         [
@@ -90,7 +92,7 @@ fn reading(entries: usize, alpha: bool) {
             },
         ],
     );
-    show_two(&format!("read, {name}"), &records);
+    row("bpg::read", &name, &records);
 }
 
 /// Reading looks at no byte of the data, so its time does not grow with it.
@@ -107,6 +109,7 @@ fn reading_sizes() {
             },
         ],
     );
+    println!();
     println!(
         "A file of 16 MiB is read in {:.2} of the time of one of 1 KiB.",
         race.ratio(0, 1)
@@ -146,9 +149,10 @@ fn batch() {
             },
         ],
     );
-    show_two("batch, 60 files of 20 KiB", &race);
+    row("bpg_batch", "60 files of 20 KiB", &race);
     println!(
-        "It takes {:.2} of the time of 60 calls of `read list`.",
+        "{:<43} It takes {:.2} of the time of 60 calls of `bpg_read`.",
+        "",
         race.ratio(0, 2)
     );
 }
@@ -163,28 +167,26 @@ fn canonicalizing(name: &str, size: usize) {
             &mut |out| black_box(out).copy_from_slice(black_box(file)),
         ],
     );
-    show_three(&format!("canonicalize {name}"), &race);
+    row_copying("bpg::canonicalize", name, size, &race);
 }
 
 fn writing(name: &str, size: usize) {
     let file = &sample::file(3, true, size)[..];
     let record = &bpg::read(file).expect("the file is valid");
+    let plain_record = &plain::read(file).expect("the file is valid");
     let race = Race::run(
         &mut buffer(size),
         [
             &mut |out| ok(bpg::write(black_box(record), file, black_box(out))),
-            &mut |out| ok(plain::write(black_box(record), file, black_box(out))),
+            &mut |out| ok(plain::write(black_box(plain_record), file, black_box(out))),
             &mut |out| black_box(out).copy_from_slice(black_box(file)),
         ],
     );
-    show_three(&format!("write {name}"), &race);
+    row_copying("bpg::write", name, size, &race);
 }
 
 fn writing_list(name: &str, size: usize) {
-    let file = &sample::file(3, true, size)[..];
-    let list = &mut [0; plain::NUMBERS][..];
-    ok(plain::read_list(file, list).map(|()| 0));
-    let list = &*list;
+    let (file, list) = &listed(size);
     let race = Race::run(
         &mut buffer(size),
         [
@@ -195,7 +197,38 @@ fn writing_list(name: &str, size: usize) {
             &mut |out| black_box(out).copy_from_slice(black_box(file)),
         ],
     );
-    show_three(&format!("write list {name}"), &race);
+    row_copying("bpg_write", name, size, &race);
+}
+
+/// The sizes that a buffer needs: nothing is copied.
+fn measuring() {
+    let (file, list) = &listed(1 << 24);
+    let writing = Race::run::<()>(
+        &mut [],
+        [
+            &mut |_| {
+                black_box(bpg::ffi::write_size(black_box(list), black_box(file)));
+            },
+            &mut |_| ok(plain::write_list_size(black_box(list), black_box(file))),
+        ],
+    );
+    row("bpg_write_size", "16 MiB", &writing);
+    let canonical = Race::run::<()>(
+        &mut [],
+        [
+            &mut |_| ok(bpg::canonical_size(black_box(file))),
+            &mut |_| ok(plain::canonical_size(black_box(file))),
+        ],
+    );
+    row("bpg::canonical_size", "16 MiB", &canonical);
+}
+
+/// A file with 3 entries and alpha, and its list of numbers.
+fn listed(size: usize) -> (Vec<u8>, [u64; plain::NUMBERS]) {
+    let file = sample::file(3, true, size);
+    let mut list = [0; plain::NUMBERS];
+    plain::read_list(&file, &mut list).expect("the file is valid");
+    (file, list)
 }
 
 fn counting_frames(name: &str, marks: Marks) {
@@ -208,7 +241,12 @@ fn counting_frames(name: &str, marks: Marks) {
             &mut |out| black_box(out).copy_from_slice(black_box(file)),
         ],
     );
-    show_three(&format!("frame_count, {name}"), &race);
+    row_copying(
+        "bpg_frame_count",
+        &format!("16 MiB, {name}"),
+        file.len(),
+        &race,
+    );
 }
 
 /// Plain Rust keeps the durations beside the list and goes over the file once.
@@ -223,7 +261,7 @@ fn timing_frames(name: &str, file: &[u8]) {
             &mut |list| ok(plain::frames(black_box(file), black_box(list))),
         ],
     );
-    show_two(&format!("frames, {name}"), &race);
+    row_over("bpg_frames", &format!("16 MiB, {name}"), file.len(), &race);
 }
 
 fn unescaping(name: &str, unit: &[u8]) {
@@ -235,7 +273,7 @@ fn unescaping(name: &str, unit: &[u8]) {
             &mut |out| black_box(out).copy_from_slice(black_box(unit)),
         ],
     );
-    show_three(&format!("unescape {name}"), &race);
+    row_copying("bpg_unescape", name, unit.len(), &race);
 }
 
 fn escaping(name: &str, bytes: &[u8]) {
@@ -247,7 +285,7 @@ fn escaping(name: &str, bytes: &[u8]) {
             &mut |out| black_box(&mut out[..bytes.len()]).copy_from_slice(black_box(bytes)),
         ],
     );
-    show_three(&format!("escape {name}"), &race);
+    row_copying("bpg_escape", name, bytes.len(), &race);
 }
 
 /// A buffer whose every byte was written, so that no page is met for the first time.
@@ -257,21 +295,4 @@ fn buffer(size: usize) -> Vec<u8> {
 
 fn ok(answer: Result<usize, bpg::Refusal>) {
     black_box(answer).expect("file and record are valid");
-}
-
-fn show_two<const N: usize>(name: &str, race: &Race<N>) {
-    let (library, plain) = (race.time(0), race.time(1));
-    println!(
-        "{name:27}{library:10.0} {plain:10.0} {:6.2}",
-        race.ratio(0, 1)
-    );
-}
-
-fn show_three(name: &str, race: &Race<3>) {
-    let [library, plain, copy] = [0, 1, 2].map(|function| race.time(function));
-    print!(
-        "{name:27}{library:10.0} {plain:10.0} {:6.2}",
-        race.ratio(0, 1)
-    );
-    println!(" {copy:10.0} {:6.2}", race.ratio(0, 2));
 }

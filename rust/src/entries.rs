@@ -1,31 +1,33 @@
 //! The extension entries of a file, one at a time.
 
-use std::iter::FusedIterator;
+use core::array;
+use core::iter::{FusedIterator, Take};
 
-use crate::record::Entry;
+use crate::{Entry, Record, MAX_ENTRIES};
 
 /// The entries of a file in their order; made by [`entries`](crate::entries).
 #[derive(Clone, Debug)]
-pub struct Entries<'a> {
-    file: &'a [u8],
-    next: usize,
-}
+pub struct Entries(Take<array::IntoIter<Entry, MAX_ENTRIES>>);
 
-impl<'a> Entries<'a> {
-    pub(crate) fn new(file: &'a [u8]) -> Self {
-        Entries { file, next: 0 }
+impl Entries {
+    pub(crate) fn of(record: &Record) -> Entries {
+        let used = record.entries().len();
+        Entries(record.entries.into_iter().take(used))
     }
 }
 
-impl Iterator for Entries<'_> {
+impl Iterator for Entries {
     type Item = Entry;
 
     fn next(&mut self) -> Option<Entry> {
-        let entry = crate::entry(self.file, self.next)?;
-        self.next += 1;
-        Some(entry)
+        self.0.next()
+    }
+
+    fn size_hint(&self) -> (usize, Option<usize>) {
+        self.0.size_hint()
     }
 }
 
-// Past the last entry, `next` stays where it is and so gives `None` again.
-impl FusedIterator for Entries<'_> {}
+impl ExactSizeIterator for Entries {}
+
+impl FusedIterator for Entries {}
