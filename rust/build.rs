@@ -4,7 +4,7 @@
 use std::env;
 use std::fs::File;
 use std::path::{Path, PathBuf};
-use std::process::{Command, Stdio};
+use std::process::{exit, Command, Stdio};
 use std::time::Instant;
 
 const FOLDER: &str = "BPG_LIBRARY_DIR";
@@ -35,6 +35,12 @@ fn check_target() {
     }
 }
 
+/// Ends the build with a line that cargo shows.
+fn fail(reason: &str) -> ! {
+    println!("cargo::error={reason}");
+    exit(1)
+}
+
 fn variable(name: &str) -> String {
     env::var(name).unwrap_or_else(|_| panic!("cargo sets {name}"))
 }
@@ -45,7 +51,9 @@ fn named(folder: &Path) -> PathBuf {
     let found = archives.into_iter().find(|archive| archive.exists());
     found.unwrap_or_else(|| {
         let folder = folder.display();
-        panic!("{FOLDER} names {folder}, which has neither libbpg.a nor libbpg_export.a")
+        fail(&format!(
+            "{FOLDER} names {folder}, which has neither libbpg.a nor libbpg_export.a"
+        ))
     })
 }
 
@@ -55,7 +63,7 @@ fn own() -> PathBuf {
     let root = package.parent().unwrap_or(&package);
     let [crates, list] = ["crates", "crates.txt"].map(|name| root.join(name));
     if !list.exists() {
-        panic!("this package stands outside its repository: {FOLDER} must name the folder of a library that was made there");
+        fail(&format!("this package stands outside its repository: {FOLDER} must name the folder of a library that was made there"));
     }
     for source in [&crates, &list] {
         println!("cargo:rerun-if-changed={}", source.display());
@@ -88,9 +96,9 @@ fn make(root: &Path) {
         .status();
     match status {
         Ok(status) if status.success() => {}
-        Ok(status) => panic!(
-            "`./build library` failed ({status}): is `rt`, the Rattle toolchain, installed? {FOLDER} can name the folder of a library made elsewhere"
-        ),
-        Err(error) => panic!("`./build library` could not be started: {error}"),
+        Ok(_) => fail(&format!(
+            "the proved library could not be made by `./build library`, which the Rattle toolchain (`rt`) is needed for; {FOLDER} can name the folder of one made elsewhere"
+        )),
+        Err(error) => fail(&format!("`./build library` could not be started: {error}")),
     }
 }
