@@ -93,6 +93,18 @@ fn reading(entries: usize, alpha: bool) {
         ],
     );
     row("bpg::read", &name, &records);
+    let records = Race::run(
+        &mut [bpg::Record::new()],
+        [
+            &mut |record| {
+                black_box(record[0].read_from(black_box(file))).expect("the file is valid");
+            },
+            &mut |_| {
+                black_box(&plain::read(black_box(file)));
+            },
+        ],
+    );
+    row("Record::read_from", &name, &records);
 }
 
 /// Reading looks at no byte of the data, so its time does not grow with it.

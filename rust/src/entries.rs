@@ -1,18 +1,19 @@
 //! The extension entries of a file, one at a time.
 
-use core::array;
-use core::iter::{FusedIterator, Take};
+use core::iter::FusedIterator;
 
-use crate::{Entry, Record, MAX_ENTRIES};
+use crate::{Entry, Record};
 
 /// The entries of a file in their order; made by [`entries`](crate::entries).
 #[derive(Clone, Debug)]
-pub struct Entries(Take<array::IntoIter<Entry, MAX_ENTRIES>>);
+pub struct Entries {
+    record: Record,
+    next: usize,
+}
 
 impl Entries {
-    pub(crate) fn of(record: &Record) -> Entries {
-        let used = record.entries().len();
-        Entries(record.entries.into_iter().take(used))
+    pub(crate) fn of(record: Record) -> Entries {
+        Entries { record, next: 0 }
     }
 }
 
@@ -20,14 +21,18 @@ impl Iterator for Entries {
     type Item = Entry;
 
     fn next(&mut self) -> Option<Entry> {
-        self.0.next()
+        let entry = self.record.entries().get(self.next)?;
+        self.next += 1;
+        Some(*entry)
     }
 
     fn size_hint(&self) -> (usize, Option<usize>) {
-        self.0.size_hint()
+        let left = self.record.entries().len() - self.next;
+        (left, Some(left))
     }
 }
 
 impl ExactSizeIterator for Entries {}
 
+// Past the last entry, `next` stays where it is and so gives `None` again.
 impl FusedIterator for Entries {}

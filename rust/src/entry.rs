@@ -2,7 +2,7 @@
 
 use core::fmt;
 
-use crate::number::accessors;
+use crate::number::{accessors, own_fields};
 use crate::Span;
 
 /// An extension entry: its tag, and where its payload stands, in the file that was read or in the source
@@ -14,6 +14,8 @@ pub struct Entry {
     start: u64,
     length: u64,
 }
+
+own_fields!(Entry);
 
 accessors! {
     Entry {

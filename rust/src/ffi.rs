@@ -9,8 +9,8 @@
 
 use core::mem::MaybeUninit;
 
-use crate::record::RECORD_NUMBERS;
-use crate::{Entry, Record, Refusal, MAX_ENTRIES};
+use crate::record::{ENTRY_NUMBERS, FIXED_NUMBERS, RECORD_NUMBERS};
+use crate::{Entry, Record, Refusal};
 
 // Results start with values that are no likely answer, so that the comparison sees one that was not set.
 const UNSET: usize = usize::MAX;
@@ -118,11 +118,25 @@ pub fn read(file: &[u8], numbers: &mut [u64]) -> (u8, usize) {
     (status, offset)
 }
 
-/// The record of a file. The library writes it where it stands, and what is left are the entries that are not in
-/// use.
+/// The record of a file.
 #[inline]
 pub(crate) fn read_record(file: &[u8]) -> Result<Record, Refusal> {
-    let mut record = MaybeUninit::<Record>::uninit();
+    let mut record = MaybeUninit::uninit();
+    read_into(file, &mut record)?;
+    // SAFETY: the file was read, so that the record is initialized.
+    Ok(unsafe { record.assume_init() })
+}
+
+/// Reads a file into a record, which is as it was if the file is refused.
+#[inline]
+pub(crate) fn read_over(file: &[u8], record: &mut Record) -> Result<(), Refusal> {
+    // SAFETY: `MaybeUninit` has the layout of what it holds, and `read_into` leaves the record initialized.
+    read_into(file, unsafe { &mut *core::ptr::from_mut(record).cast() })
+}
+
+/// On success the record is initialized: the fixed numbers, and `entry_count` entries, which are at most MAX_ENTRIES.
+#[inline]
+fn read_into(file: &[u8], record: &mut MaybeUninit<Record>) -> Result<(), Refusal> {
     let mut offset = UNSET;
     // SAFETY: a record is RECORD_NUMBERS numbers of 64 bits, which the library writes and does not read.
     let status = unsafe {
@@ -134,18 +148,7 @@ pub(crate) fn read_record(file: &[u8]) -> Result<Record, Refusal> {
             &mut offset,
         )
     };
-    if status != 0 {
-        return Err(crate::refusal(status, offset));
-    }
-    let record_ptr = record.as_mut_ptr();
-    // SAFETY: on success the library has written the numbers up to the last entry in use; the entries after it
-    // lie in the record and are cleared here, all bits zero being an entry.
-    unsafe {
-        let used = ((*record_ptr).entry_count as usize).min(MAX_ENTRIES);
-        let entries = (&raw mut (*record_ptr).entries).cast::<Entry>();
-        entries.add(used).write_bytes(0, MAX_ENTRIES - used);
-        Ok(record.assume_init())
-    }
+    crate::answer(status, offset)
 }
 
 /// A record whose every number is zero.
@@ -154,11 +157,34 @@ pub(crate) fn zero_record() -> Record {
     unsafe { MaybeUninit::zeroed().assume_init() }
 }
 
-/// A record as the list of numbers that it is.
+/// The entries of a record that are in use.
+#[inline]
+pub(crate) fn entries(record: &Record) -> &[Entry] {
+    let used = &record.entries[..used(record)];
+    // SAFETY: the entries in use are initialized, and `MaybeUninit` has the layout of what it holds.
+    unsafe { core::slice::from_raw_parts(used.as_ptr().cast(), used.len()) }
+}
+
+/// The entries of a record that are in use, to be changed.
+#[inline]
+pub(crate) fn entries_mut(record: &mut Record) -> &mut [Entry] {
+    let used = used(record);
+    let used = &mut record.entries[..used];
+    // SAFETY: as above.
+    unsafe { core::slice::from_raw_parts_mut(used.as_mut_ptr().cast(), used.len()) }
+}
+
+#[inline]
+fn used(record: &Record) -> usize {
+    record.fixed.entry_count as usize
+}
+
+/// A record as the list of numbers that it is, up to the last entry in use.
 #[inline]
 pub fn numbers(record: &Record) -> &[u64] {
-    // SAFETY: a record is RECORD_NUMBERS numbers of 64 bits without padding, and has their alignment.
-    unsafe { core::slice::from_raw_parts(core::ptr::from_ref(record).cast(), RECORD_NUMBERS) }
+    let count = FIXED_NUMBERS + ENTRY_NUMBERS * entries(record).len();
+    // SAFETY: a record is numbers of 64 bits without padding, has their alignment, and is initialized so far.
+    unsafe { core::slice::from_raw_parts(core::ptr::from_ref(record).cast(), count) }
 }
 
 /// Whether there is an entry with index `k`, and its tag, start and length, or zeros.

@@ -2,7 +2,7 @@
 
 use core::fmt;
 
-use crate::number::accessors;
+use crate::number::{accessors, own_fields};
 
 /// A HEVC header, its fields as coded, with the names of the BPG specification. Fields that are not in
 /// the file are zero, and so are all of `HevcHeader::default()`.
@@ -35,6 +35,8 @@ pub struct HevcHeader {
     persistent_rice_adaptation_enabled_flag: u64,
     cabac_bypass_alignment_enabled_flag: u64,
 }
+
+own_fields!(HevcHeader);
 
 accessors! {
     HevcHeader {

@@ -34,19 +34,19 @@ macro_rules! integers {
 
 integers! { u8 u16 u32 u64 }
 
-/// A getter and a setter for each number of a struct, and what `Debug` shows of them.
+/// A getter and a setter for each number of a struct, which `fields` and `fields_mut` reach, and what `Debug` shows.
 macro_rules! accessors {
     ($struct:ident { $($(#[$doc:meta])* $name:ident $set:ident: $type:ident,)* }) => {
         impl $struct {
             $(
                 $(#[$doc])*
                 pub fn $name(&self) -> $type {
-                    <$type as $crate::number::Number>::of(self.$name)
+                    <$type as $crate::number::Number>::of(self.fields().$name)
                 }
 
                 #[doc = concat!("Sets [`", stringify!($name), "`](", stringify!($struct), "::", stringify!($name), ").")]
                 pub fn $set(&mut self, value: $type) {
-                    self.$name = $crate::number::Number::number(value);
+                    self.fields_mut().$name = $crate::number::Number::number(value);
                 }
             )*
 
@@ -57,4 +57,19 @@ macro_rules! accessors {
     };
 }
 
-pub(crate) use accessors;
+/// The numbers of a struct that are its own fields.
+macro_rules! own_fields {
+    ($struct:ident) => {
+        impl $struct {
+            fn fields(&self) -> &$struct {
+                self
+            }
+
+            fn fields_mut(&mut self) -> &mut $struct {
+                self
+            }
+        }
+    };
+}
+
+pub(crate) use {accessors, own_fields};

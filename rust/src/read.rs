@@ -63,7 +63,7 @@ pub fn payload(file: &[u8], k: usize) -> &[u8] {
 /// assert_eq!(tags, [bpg::tag::ANIMATION_CONTROL]);
 /// ```
 pub fn entries(file: &[u8]) -> Entries {
-    Entries::of(&read(file).unwrap_or_default())
+    Entries::of(read(file).unwrap_or_default())
 }
 
 /// The HEVC data of a file, as that part of it; empty for a refused file.

@@ -1,7 +1,8 @@
 //! What a file says, field by field, with the names of the BPG specification.
 
 use core::fmt;
-use core::mem::{offset_of, size_of};
+use core::hash::{Hash, Hasher};
+use core::mem::{offset_of, size_of, MaybeUninit};
 
 use crate::number::accessors;
 use crate::{ffi, AlphaKind, Entry, HevcHeader, Reason, Refusal, Span, MAX_ENTRIES};
@@ -11,24 +12,10 @@ pub(crate) const FIXED_NUMBERS: usize = 69;
 pub(crate) const ENTRY_NUMBERS: usize = 3;
 pub(crate) const RECORD_NUMBERS: usize = FIXED_NUMBERS + ENTRY_NUMBERS * MAX_ENTRIES;
 
-/// The record of a file: every field as coded, except the lengths, which follow from the rest.
-///
-/// It is the memory that the static library reads and writes, so that nothing is converted; the methods
-/// give the fields their types. All of [`Record::new`] is zero. Two records are equal if their fields and
-/// their entries in use are.
-///
-/// ```
-/// // File A of the examples.
-/// let file = *b"BPG\xFB\x20\x00\x08\x84\x1E\x00\x03\x92\x4D\x00\x26\x01";
-/// let record = bpg::read(&file)?;
-/// assert_eq!((record.picture_width(), record.picture_height()), (8, 542));
-/// assert_eq!((record.coded_width(), record.coded_height()), (8, 544));
-/// assert_eq!(record.data_span().range(), 14..16);
-/// # Ok::<(), bpg::Refusal>(())
-/// ```
+/// The numbers before a record's entries.
 #[derive(Clone, Copy, PartialEq, Eq, Hash)]
 #[repr(C)]
-pub struct Record {
+pub(crate) struct Fixed {
     pixel_format: u64,
     alpha1_flag: u64,
     bit_depth_minus_8: u64,
@@ -50,20 +37,43 @@ pub struct Record {
     coded_width: u64,
     coded_height: u64,
     pub(crate) entry_count: u64,
-    // Those that are not in use are zero, so that records can be compared number by number.
-    pub(crate) entries: [Entry; MAX_ENTRIES],
+}
+
+/// The record of a file: every field as coded, except the lengths, which follow from the rest.
+///
+/// It is the memory that the static library reads and writes, so that nothing is converted; the methods
+/// give the fields their types. All of [`Record::new`] is zero. Two records are equal if their fields and
+/// their entries in use are.
+///
+/// ```
+/// // File A of the examples.
+/// let file = *b"BPG\xFB\x20\x00\x08\x84\x1E\x00\x03\x92\x4D\x00\x26\x01";
+/// let record = bpg::read(&file)?;
+/// assert_eq!((record.picture_width(), record.picture_height()), (8, 542));
+/// assert_eq!((record.coded_width(), record.coded_height()), (8, 544));
+/// assert_eq!(record.data_span().range(), 14..16);
+/// # Ok::<(), bpg::Refusal>(())
+/// ```
+#[derive(Clone, Copy)]
+#[repr(C)]
+pub struct Record {
+    pub(crate) fixed: Fixed,
+    // The first `entry_count` are initialized, which is at most MAX_ENTRIES: reading need not clear the others.
+    pub(crate) entries: [MaybeUninit<Entry>; MAX_ENTRIES],
 }
 
 // The list of the static library, number for number.
 const _: () = {
     assert!(size_of::<Record>() == 8 * RECORD_NUMBERS);
+    assert!(
+        size_of::<Fixed>() == 8 * FIXED_NUMBERS && offset_of!(Record, entries) == 8 * FIXED_NUMBERS
+    );
     assert!(size_of::<HevcHeader>() == 8 * 25 && size_of::<Entry>() == 8 * ENTRY_NUMBERS);
-    assert!(offset_of!(Record, alpha_header) == 8 * 14);
-    assert!(offset_of!(Record, color_header) == 8 * 39);
-    assert!(offset_of!(Record, data_start) == 8 * 64);
-    assert!(offset_of!(Record, coded_width) == 8 * 66);
-    assert!(offset_of!(Record, entry_count) == 8 * 68);
-    assert!(offset_of!(Record, entries) == 8 * FIXED_NUMBERS);
+    assert!(offset_of!(Fixed, alpha_header) == 8 * 14);
+    assert!(offset_of!(Fixed, color_header) == 8 * 39);
+    assert!(offset_of!(Fixed, data_start) == 8 * 64);
+    assert!(offset_of!(Fixed, coded_width) == 8 * 66);
+    assert!(offset_of!(Fixed, entry_count) == 8 * 68);
 };
 
 accessors! {
@@ -114,24 +124,41 @@ impl Record {
         ffi::zero_record()
     }
 
+    /// Reads a file into this record, which stays as it was if the file is refused. [`read`](crate::read) answers a new record,
+    /// which is copied on its way; for many files one after the other this is faster.
+    ///
+    /// ```
+    /// // File A of the examples.
+    /// let file = *b"BPG\xFB\x20\x00\x08\x84\x1E\x00\x03\x92\x4D\x00\x26\x01";
+    /// let mut record = bpg::Record::new();
+    /// record.read_from(&file)?;
+    /// assert!(record.read_from(&file[..9]).is_err());
+    /// assert_eq!(Ok(record), bpg::read(&file));
+    /// # Ok::<(), bpg::Refusal>(())
+    /// ```
+    #[inline]
+    pub fn read_from(&mut self, file: &[u8]) -> Result<(), Refusal> {
+        ffi::read_over(file, self)
+    }
+
     /// The header of the alpha plane, or of W; zero without them.
     pub fn alpha_header(&self) -> &HevcHeader {
-        &self.alpha_header
+        &self.fields().alpha_header
     }
 
     /// The header of the alpha plane, or of W, to be changed.
     pub fn alpha_header_mut(&mut self) -> &mut HevcHeader {
-        &mut self.alpha_header
+        &mut self.fields_mut().alpha_header
     }
 
     /// The header of the color planes.
     pub fn color_header(&self) -> &HevcHeader {
-        &self.color_header
+        &self.fields().color_header
     }
 
     /// The header of the color planes, to be changed.
     pub fn color_header_mut(&mut self) -> &mut HevcHeader {
-        &mut self.color_header
+        &mut self.fields_mut().color_header
     }
 
     /// What the two alpha flags say.
@@ -164,13 +191,12 @@ impl Record {
 impl Record {
     /// The entries in use, in file order.
     pub fn entries(&self) -> &[Entry] {
-        &self.entries[..self.used()]
+        ffi::entries(self)
     }
 
     /// The entries in use, to be changed.
     pub fn entries_mut(&mut self) -> &mut [Entry] {
-        let used = self.used();
-        &mut self.entries[..used]
+        ffi::entries_mut(self)
     }
 
     /// The entries in use that have this tag, in file order.
@@ -187,9 +213,9 @@ impl Record {
             reason: Reason::TooManyEntries,
             offset: 0,
         };
-        let used = self.used();
-        *self.entries.get_mut(used).ok_or(refusal)? = entry;
-        self.entry_count += 1;
+        let used = self.entries().len();
+        self.entries.get_mut(used).ok_or(refusal)?.write(entry);
+        self.fields_mut().entry_count += 1;
         self.set_extension_present_flag(true);
         Ok(())
     }
@@ -207,14 +233,35 @@ impl Record {
     /// ```
     pub fn retain_entries(&mut self, mut keep: impl FnMut(&Entry) -> bool) {
         let old = *self;
-        self.entries = [Entry::default(); MAX_ENTRIES];
         let kept = old.entries().iter().filter(|entry| keep(entry));
-        let slots = self.entries.iter_mut().zip(kept);
-        self.entry_count = slots.map(|(slot, entry)| *slot = *entry).count() as u64;
+        self.fields_mut().entry_count = 0;
+        for (slot, entry) in self.entries.iter_mut().zip(kept) {
+            slot.write(*entry);
+            self.fixed.entry_count += 1;
+        }
     }
 
-    fn used(&self) -> usize {
-        (self.entry_count as usize).min(MAX_ENTRIES)
+    fn fields(&self) -> &Fixed {
+        &self.fixed
+    }
+
+    fn fields_mut(&mut self) -> &mut Fixed {
+        &mut self.fixed
+    }
+}
+
+impl PartialEq for Record {
+    fn eq(&self, other: &Record) -> bool {
+        self.fields() == other.fields() && self.entries() == other.entries()
+    }
+}
+
+impl Eq for Record {}
+
+impl Hash for Record {
+    fn hash<H: Hasher>(&self, state: &mut H) {
+        self.fields().hash(state);
+        self.entries().hash(state);
     }
 }
 
@@ -228,8 +275,8 @@ impl fmt::Debug for Record {
     fn fmt(&self, f: &mut fmt::Formatter<'_>) -> fmt::Result {
         let mut shown = f.debug_struct("Record");
         self.show_numbers(&mut shown);
-        shown.field("alpha_header", &self.alpha_header);
-        shown.field("color_header", &self.color_header);
+        shown.field("alpha_header", &self.alpha_header());
+        shown.field("color_header", &self.color_header());
         shown.field("entries", &self.entries());
         shown.finish()
     }

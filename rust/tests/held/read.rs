@@ -21,6 +21,7 @@ pub fn read(file: &[u8], random: &mut Random, table: &mut Table) {
         read.map(|read| plain_of(&read)),
         record,
     );
+    read_over(file, read, random, &case);
     let Ok(record) = record else {
         read_in(file, &before[..random.below(before.len())], &case);
         return parts(file, &Record::default(), random, &case);
@@ -32,6 +33,25 @@ pub fn read(file: &[u8], random: &mut Random, table: &mut Table) {
     }
     read_in(file, &before[..random.below(before.len())], &case);
     parts(file, &record, random, &case);
+}
+
+/// A file read into a record that has another's fields: it is the answer, or stays as it was.
+fn read_over(
+    file: &[u8],
+    read: Result<bpg::Record, bpg::Refusal>,
+    random: &mut Random,
+    case: &dyn Fn() -> String,
+) {
+    let mut before = bpg::Record::new();
+    before.set_coded_width(random.next());
+    for _ in 0..random.below(4) {
+        let entry = bpg::Entry::new(7, bpg::Span::default());
+        before.push_entry(entry).expect("the entries fit");
+    }
+    let mut over = before;
+    let answer = over.read_from(file);
+    same("the answer", case, answer, read.map(drop));
+    same("the record", case, over, read.unwrap_or(before));
 }
 
 /// Both answers into lists with these numbers, and the status.
