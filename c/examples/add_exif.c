@@ -35,7 +35,8 @@ int main(int argc, char **argv) {
 
     struct bpg_record record;
     size_t offset, count;
-    check(bpg_read_record(source, file_len, &record, &offset), offset);
+    uint8_t status = bpg_read_record(source, file_len, &record, &offset);
+    check(status, offset);
     if (!bpg_push_entry(&record, BPG_TAG_EXIF, (uint32_t)file_len, (uint32_t)exif_len)) {
         check(BPG_TOO_MANY_ENTRIES, 0);
     }
