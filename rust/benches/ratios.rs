@@ -8,12 +8,15 @@ mod race;
 #[path = "../tests/cases/random.rs"]
 #[allow(dead_code)]
 mod random;
+#[path = "../tests/held/record.rs"]
+mod record;
 mod sample;
 mod table;
 
 use std::hint::black_box;
 
 use race::Race;
+use record::{package_of, plain_of};
 use sample::Marks;
 use table::{heading, row, row_copying, row_over};
 
@@ -30,6 +33,8 @@ fn main() {
     println!("library is slower. Every byte of the buffers was touched before. `bpg_read`, `bpg_write`: the calls for C, a");
     println!("record being a list of numbers; `bpg::read` and the like: those of the Rust package. Marks are two zero bytes and");
     println!("one of at most 3: few are one in 4 KiB, many one in 13 bytes. Many frames: one in 64 bytes.");
+    println!("Plain Rust answers and takes what the call does: the list, or the package's record, which is that list. In a row with *");
+    println!("it has a record of its own in its place, of half the size.");
     println!();
     heading();
     for entries in [0, 3, 16] {
@@ -80,22 +85,22 @@ fn reading(entries: usize, alpha: bool) {
             },
         ],
     );
-    row("bpg_read", &name, &lists);
-    let records = Race::run::<()>(
-        &mut [],
+    row("bpg_read", &name, &lists, [0, 1]);
+    reading_records(&name, file);
+}
+
+/// Against plain Rust that answers the package's record, and against plain Rust with a record of its own.
+fn reading_records(name: &str, file: &[u8]) {
+    let race = Race::run(
+        &mut [bpg::Record::new()],
         [
             &mut |_| {
                 black_box(&bpg::read(black_box(file)));
             },
             &mut |_| {
-                black_box(&plain::read(black_box(file)));
+                let record = plain::read(black_box(file));
+                black_box(&record.map(|record| package_of(&record)));
             },
-        ],
-    );
-    row("bpg::read", &name, &records);
-    let records = Race::run(
-        &mut [bpg::Record::new()],
-        [
             &mut |record| {
                 black_box(record[0].read_from(black_box(file))).expect("the file is valid");
             },
@@ -104,7 +109,9 @@ fn reading(entries: usize, alpha: bool) {
             },
         ],
     );
-    row("Record::read_from", &name, &records);
+    row("bpg::read", name, &race, [0, 1]);
+    row("Record::read_from", name, &race, [2, 1]);
+    row("bpg::read *", name, &race, [0, 3]);
 }
 
 /// Reading looks at no byte of the data, so its time does not grow with it.
@@ -161,7 +168,7 @@ fn batch() {
             },
         ],
     );
-    row("bpg_batch", "60 files of 20 KiB", &race);
+    row("bpg_batch", "60 files of 20 KiB", &race, [0, 1]);
     println!(
         "{:<43} It takes {:.2} of the time of 60 calls of `bpg_read`.",
         "",
@@ -179,22 +186,28 @@ fn canonicalizing(name: &str, size: usize) {
             &mut |out| black_box(out).copy_from_slice(black_box(file)),
         ],
     );
-    row_copying("bpg::canonicalize", name, size, &race);
+    row_copying("bpg::canonicalize", name, size, &race, [0, 1]);
 }
 
+/// Against plain Rust that takes the package's record, and against plain Rust with a record of its own.
 fn writing(name: &str, size: usize) {
     let file = &sample::file(3, true, size)[..];
     let record = &bpg::read(file).expect("the file is valid");
-    let plain_record = &plain::read(file).expect("the file is valid");
+    let own = &plain::read(file).expect("the file is valid");
     let race = Race::run(
         &mut buffer(size),
         [
             &mut |out| ok(bpg::write(black_box(record), file, black_box(out))),
-            &mut |out| ok(plain::write(black_box(plain_record), file, black_box(out))),
+            &mut |out| {
+                let record = plain_of(black_box(record));
+                ok(plain::write(&record, file, black_box(out)));
+            },
             &mut |out| black_box(out).copy_from_slice(black_box(file)),
+            &mut |out| ok(plain::write(black_box(own), file, black_box(out))),
         ],
     );
-    row_copying("bpg::write", name, size, &race);
+    row_copying("bpg::write", name, size, &race, [0, 1]);
+    row_copying("bpg::write *", name, size, &race, [0, 3]);
 }
 
 fn writing_list(name: &str, size: usize) {
@@ -209,7 +222,7 @@ fn writing_list(name: &str, size: usize) {
             &mut |out| black_box(out).copy_from_slice(black_box(file)),
         ],
     );
-    row_copying("bpg_write", name, size, &race);
+    row_copying("bpg_write", name, size, &race, [0, 1]);
 }
 
 /// The sizes that a buffer needs: nothing is copied.
@@ -224,7 +237,7 @@ fn measuring() {
             &mut |_| ok(plain::write_list_size(black_box(list), black_box(file))),
         ],
     );
-    row("bpg_write_size", "16 MiB", &writing);
+    row("bpg_write_size", "16 MiB", &writing, [0, 1]);
     let canonical = Race::run::<()>(
         &mut [],
         [
@@ -232,7 +245,7 @@ fn measuring() {
             &mut |_| ok(plain::canonical_size(black_box(file))),
         ],
     );
-    row("bpg::canonical_size", "16 MiB", &canonical);
+    row("bpg::canonical_size", "16 MiB", &canonical, [0, 1]);
 }
 
 /// A file with 3 entries and alpha, and its list of numbers.
@@ -258,6 +271,7 @@ fn counting_frames(name: &str, marks: Marks) {
         &format!("16 MiB, {name}"),
         file.len(),
         &race,
+        [0, 1],
     );
 }
 
@@ -285,7 +299,7 @@ fn unescaping(name: &str, unit: &[u8]) {
             &mut |out| black_box(out).copy_from_slice(black_box(unit)),
         ],
     );
-    row_copying("bpg_unescape", name, unit.len(), &race);
+    row_copying("bpg_unescape", name, unit.len(), &race, [0, 1]);
 }
 
 fn escaping(name: &str, bytes: &[u8]) {
@@ -297,7 +311,7 @@ fn escaping(name: &str, bytes: &[u8]) {
             &mut |out| black_box(&mut out[..bytes.len()]).copy_from_slice(black_box(bytes)),
         ],
     );
-    row_copying("bpg_escape", name, bytes.len(), &race);
+    row_copying("bpg_escape", name, bytes.len(), &race, [0, 1]);
 }
 
 /// A buffer whose every byte was written, so that no page is met for the first time.
