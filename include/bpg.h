@@ -10,6 +10,8 @@
  *   - this header itself: its declarations, and the inline functions, which are plain C over the proved ones. c/test compiles it as C and
  *     as C++ and runs all of it.
  *
+ * The library keeps nothing between calls, so that calls may run at the same time.
+ *
  * A call answers a status: BPG_OK, or the number of a refusal (enum bpg_status; bpg_status_text has it in words). A refusal leaves the
  * buffer, or the list, as it was. Every result is always written. */
 #ifndef BPG_H

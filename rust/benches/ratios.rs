@@ -43,7 +43,7 @@ fn main() {
             reading(entries, alpha);
         }
     }
-    batch();
+    let batched = batch();
     for (name, size) in SIZES {
         writing_list(name, size);
         writing(name, size);
@@ -68,7 +68,12 @@ fn main() {
             escaping(&name, &sample::bytes(marks, *size));
         }
     }
-    reading_sizes();
+    println!();
+    println!(
+        "A file of 16 MiB is read in {:.2} of the time of one of 1 KiB.",
+        reading_sizes()
+    );
+    println!("A batch of 60 files takes {batched:.2} of the time of 60 calls of `bpg_read`.");
 }
 
 fn reading(entries: usize, alpha: bool) {
@@ -122,7 +127,7 @@ fn plain_numbers(file: &[u8]) -> Result<[u64; plain::NUMBERS], bpg::Refusal> {
 }
 
 /// Reading looks at no byte of the data, so its time does not grow with it.
-fn reading_sizes() {
+fn reading_sizes() -> f64 {
     let [small, large] = [1 << 10, 1 << 24].map(|size| sample::file(3, false, size));
     let race = Race::run(
         &mut [1; plain::NUMBERS],
@@ -135,15 +140,11 @@ fn reading_sizes() {
             },
         ],
     );
-    println!();
-    println!(
-        "A file of 16 MiB is read in {:.2} of the time of one of 1 KiB.",
-        race.ratio(0, 1)
-    );
+    race.ratio(0, 1)
 }
 
 /// The files of an hour, against as many calls for one file.
-fn batch() {
+fn batch() -> f64 {
     const FILES: usize = 60;
     let file = sample::file(3, false, 20 << 10);
     let lengths = &[file.len() as u32; FILES];
@@ -176,11 +177,7 @@ fn batch() {
         ],
     );
     row("bpg_batch", "60 files of 20 KiB", &race, [0, 1]);
-    println!(
-        "{:<43} It takes {:.2} of the time of 60 calls of `bpg_read`.",
-        "",
-        race.ratio(0, 2)
-    );
+    race.ratio(0, 2)
 }
 
 fn canonicalizing(name: &str, size: usize) {
