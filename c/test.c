@@ -222,6 +222,10 @@ static void parts(void) {
     CHECK(bpg_data(C, sizeof C - 1, &record, &length) == NULL && length == 0);
     CHECK(bpg_payload(C, sizeof C, &record, 0, &length) == C + 13 && length == 3);
     CHECK(bpg_payload(C, sizeof C, &record, 1, &length) == NULL && length == 0);
+    CHECK(bpg_find_entry(&record, BPG_TAG_ANIMATION_CONTROL) == 0 && bpg_find_entry(&record, BPG_TAG_EXIF) == BPG_MAX_ENTRIES);
+    CHECK(bpg_payload(C, sizeof C, &record, bpg_find_entry(&record, BPG_TAG_EXIF), &length) == NULL && length == 0);
+    record.entries[1].tag = BPG_TAG_EXIF; /* not in use */
+    CHECK(bpg_find_entry(&record, BPG_TAG_EXIF) == BPG_MAX_ENTRIES);
     CHECK(bpg_payload(C, 15, &record, 0, &length) == NULL && length == 0);
     record.entry_count = UINT64_MAX;
     CHECK(bpg_payload(C, sizeof C, &record, BPG_MAX_ENTRIES, &length) == NULL && length == 0);

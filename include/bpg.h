@@ -330,6 +330,17 @@ static inline const uint8_t *bpg_payload(const uint8_t *file, size_t file_len, c
     return bpg_part(file, file_len, record->entries[k].start, record->entries[k].length, length);
 }
 
+/* The index of the first entry in use with this tag, for bpg_payload; BPG_MAX_ENTRIES, which no entry has, if there is none. */
+static inline size_t bpg_find_entry(const struct bpg_record *record, uint32_t tag) {
+    size_t k;
+    for (k = 0; k < BPG_MAX_ENTRIES && k < record->entry_count; k++) {
+        if (record->entries[k].tag == tag) {
+            return k;
+        }
+    }
+    return BPG_MAX_ENTRIES;
+}
+
 /* The HEVC data in the file that the record was read from, and its *length. NULL and 0 if its range does not lie in this file. */
 static inline const uint8_t *bpg_data(const uint8_t *file, size_t file_len, const struct bpg_record *record, size_t *length) {
     return bpg_part(file, file_len, record->data_start, record->data_length, length);
