@@ -1,0 +1,121 @@
+/* Answers cases with the native library, for native.mjs: calls from standard input, answers to standard output, as raw.mjs has them. A call is
+ * its number, one byte, then its values (8 bytes) and lists (4 bytes for the count, then the elements). An answer is the status, then results
+ * and the lists that may be written, in the order of the parameters. Results begin as all ones. */
+#include "../../include/bpg.h"
+
+#include <stdio.h>
+#include <stdlib.h>
+
+struct list {
+    void *at;
+    size_t count, size;
+};
+
+static void get(void *to, size_t size) {
+    if (size != 0 && fread(to, size, 1, stdin) != 1) exit(2);
+}
+
+static void put(const void *from, size_t size) {
+    if (size != 0 && fwrite(from, size, 1, stdout) != 1) exit(2);
+}
+
+static size_t get_value(void) {
+    uint64_t value;
+    get(&value, sizeof value);
+    return value;
+}
+
+/* malloc, and not one buffer for all, so that a sanitizer would see an access outside a list. */
+static struct list get_list(size_t size) {
+    uint32_t count;
+    get(&count, sizeof count);
+    struct list list = {malloc(count * size + 1), count, size};
+    if (list.at == NULL) exit(2);
+    get(list.at, count * size);
+    return list;
+}
+
+static void put_list(struct list list) {
+    put(list.at, list.count * list.size);
+}
+
+static uint8_t status;
+static size_t first, second;
+
+static void put_status(void) {
+    put(&status, 1);
+}
+
+/* The calls in the order of SIGNATURES in raw.mjs. Lists are kept until the next call, four at most. */
+static struct list a, b, c, d;
+
+static void call(int number) {
+    uint32_t tag = UINT32_MAX, start = UINT32_MAX, length = UINT32_MAX;
+    switch (number) {
+    case 0:
+        a = get_list(1), b = get_list(8);
+        status = bpg_read(a.at, a.count, b.at, b.count, &first);
+        put_status(), put_list(b), put(&first, 8);
+        break;
+    case 1:
+        a = get_list(1);
+        status = bpg_entry(a.at, a.count, get_value(), &tag, &start, &length);
+        put_status(), put(&tag, 4), put(&start, 4), put(&length, 4);
+        break;
+    case 2:
+        a = get_list(8), b = get_list(1), c = get_list(1);
+        status = bpg_write(a.at, a.count, b.at, b.count, c.at, c.count, &first);
+        put_status(), put_list(c), put(&first, 8);
+        break;
+    case 3:
+        a = get_list(1), b = get_list(1);
+        status = bpg_canonicalize(a.at, a.count, b.at, b.count, &first, &second);
+        put_status(), put_list(b), put(&first, 8), put(&second, 8);
+        break;
+    case 4:
+        a = get_list(1), b = get_list(2);
+        status = bpg_frames(a.at, a.count, b.at, b.count, &first, &second);
+        put_status(), put_list(b), put(&first, 8), put(&second, 8);
+        break;
+    case 5:
+        a = get_list(1);
+        status = bpg_frame_count(a.at, a.count, &first, &second);
+        put_status(), put(&first, 8), put(&second, 8);
+        break;
+    case 6:
+        a = get_list(1);
+        status = bpg_check_thumbnails(a.at, a.count, &first);
+        put_status(), put(&first, 8);
+        break;
+    case 7:
+        a = get_list(1), b = get_list(4), c = get_list(1), d = get_list(4);
+        status = bpg_batch(a.at, a.count, b.at, b.count, c.at, c.count, d.at, d.count);
+        put_status(), put_list(c), put_list(d);
+        break;
+    case 8:
+        a = get_list(1), b = get_list(1);
+        status = bpg_unescape(a.at, a.count, b.at, b.count, &first);
+        put_status(), put_list(b), put(&first, 8);
+        break;
+    case 9:
+        a = get_list(1), b = get_list(1);
+        status = bpg_escape(a.at, a.count, b.at, b.count, &first);
+        put_status(), put_list(b), put(&first, 8);
+        break;
+    default:
+        exit(2);
+    }
+}
+
+int main(void) {
+    struct list *lists[] = {&a, &b, &c, &d};
+    for (int number; (number = getchar()) != EOF;) {
+        first = second = SIZE_MAX;
+        call(number);
+        for (size_t k = 0; k < 4; k++) {
+            free(lists[k]->at);
+            lists[k]->at = NULL;
+        }
+    }
+    return 0;
+}
