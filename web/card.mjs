@@ -137,7 +137,7 @@ export class Card {
     const itself = saved === 0 && this.canonical.every((byte, k) => byte === file[k]);
     const words = itself ? 'This file is its own canonical form.' : `${bytesText(this.canonical.length)}, ${saved === 0 ? 'as many as' : `${saved} fewer than`} the file.`;
     const save = button('Download', () => this.#download(), { 'aria-label': `Download the canonical form of ${this.name}` });
-    return [element('p', { className: 'canonical' }, `${words} `, save), this.#same];
+    return [element('p', { className: 'canonical' }, words, save), this.#same];
   }
 
   #download() {

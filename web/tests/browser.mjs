@@ -17,7 +17,7 @@ export class Browser {
 
   static async start(name) {
     const browser = new Browser();
-    const flags = ['--headless', '--no-sandbox', '--disable-gpu', '--no-first-run', '--remote-debugging-pipe', `--user-data-dir=${browser.#profile}`];
+    const flags = ['--headless', '--no-sandbox', '--disable-gpu', '--hide-scrollbars', '--no-first-run', '--remote-debugging-pipe', `--user-data-dir=${browser.#profile}`];
     browser.#process = spawn(name, flags, { stdio: ['ignore', 'ignore', 'ignore', 'pipe', 'pipe'] });
     browser.#process.on('exit', () => browser.#waiting.forEach(({ reject }) => reject(new Error('Chromium ended'))));
     browser.#listen(browser.#process.stdio[4]);

@@ -155,8 +155,8 @@ const tests = {
     for (const [name, width] of [['wide', 1100], ['narrow', 390]]) {
       await size(width, 900);
       await browser.until(`innerWidth === ${width}`);
-      assert.ok(await browser.value('document.documentElement.scrollWidth <= innerWidth'), `${name}: the page is wider than its window`);
-      assert.ok(await browser.value(`[...document.querySelectorAll('.rows')].every((rows) => rows.scrollWidth <= rows.clientWidth)`), `${name}: hex`);
+      await browser.until('document.documentElement.scrollWidth <= innerWidth', 5);
+      await browser.until(`[...document.querySelectorAll('.rows')].every((rows) => rows.scrollWidth <= rows.clientWidth)`, 5);
       writeFileSync(join(kept, `page-${name}.png`), await browser.picture());
     }
   },
