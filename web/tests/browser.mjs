@@ -77,6 +77,17 @@ export class Browser {
     await this.send('Input.dispatchKeyEvent', { type: 'keyUp', key, code, windowsVirtualKeyCode });
   }
 
+  /** Clicks with the mouse on the element that an expression gives. */
+  async click(expression) {
+    const { x, y } = await this.value(`(() => {
+      const clicked = ${expression};
+      clicked.scrollIntoView({ block: 'center' });
+      const { left, top, width, height } = clicked.getBoundingClientRect();
+      return { x: left + width / 2, y: top + height / 2 };
+    })()`);
+    for (const type of ['mousePressed', 'mouseReleased']) await this.send('Input.dispatchMouseEvent', { type, x, y, button: 'left', clickCount: 1 });
+  }
+
   /** Drops files on the page as a mouse would. */
   async drop(files, x = 200, y = 200) {
     const data = { items: [], files, dragOperationsMask: 1 };

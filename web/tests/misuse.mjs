@@ -4,6 +4,7 @@ import { readFileSync } from 'node:fs';
 import { setFlagsFromString } from 'node:v8';
 import { runInNewContext } from 'node:vm';
 import { Bpg, BpgRefusal, load, MAX_FILE, part, Tag } from '../bpg.mjs';
+import { SIGNATURES } from './raw.mjs';
 
 const module = new WebAssembly.Module(readFileSync(new URL('../bpg.wasm', import.meta.url)));
 const instance = new WebAssembly.Instance(module, {});
@@ -204,6 +205,11 @@ const tests = {
     }
     await assert.rejects(load(new URL('none.wasm', import.meta.url)));
     assert.deepEqual(WebAssembly.Module.imports(module), []);
+  },
+
+  'every call of the module has its signature in raw.mjs'() {
+    const calls = WebAssembly.Module.exports(module).filter(({ kind }) => kind === 'function').map(({ name }) => name);
+    assert.deepEqual(calls.sort(), Object.keys(SIGNATURES).sort());
   },
 
   'the types name every call'() {

@@ -101,14 +101,14 @@ const tests = {
     assert.equal(await text(`${card('spoiled.bpg')}.querySelector('.bytes mark')`), '07');
     assert.ok((await text(card('cut.bpg'))).includes('Refused 2 at offset 9'));
     assert.ok((await text(card('cut.bpg'))).includes('Offset 9 (hex 9): the end of the file'));
-    await browser.value(`${card('a.bpg')}.querySelector('.refusal button').click()`);
+    await browser.click(`${card('a.bpg')}.querySelector('.refusal button')`);
     assert.equal(await text(`${card('a.bpg')}.querySelector('.where')`), 'Offset 14 (hex e): 26, HEVC data');
   },
 
   async 'the canonical form is downloaded'() {
     await browser.send('Browser.setDownloadBehavior', { behavior: 'allow', downloadPath: folder, eventsEnabled: true });
     const done = new Promise((resolve) => browser.on('Browser.downloadProgress', ({ state }) => state === 'completed' && resolve()));
-    await browser.value(`${card('loop.bpg')}.querySelector('.canonical button').click()`);
+    await browser.click(`${card('loop.bpg')}.querySelector('.canonical button')`);
     await done;
     const form = (await load()).canonicalize(Uint8Array.from(loop()));
     assert.ok(readFileSync(join(folder, 'loop.canonical.bpg')).equals(form));
@@ -147,7 +147,7 @@ const tests = {
     assert.ok((await text(card('large.bpg'))).includes('1 frame, still'));
     assert.ok((await text(card('larger.bpg'))).includes('Refused 1 at offset 0: the file has more than 16,777,216 bytes.'));
     files.forEach((file) => rmSync(file));
-    for (const name of ['large.bpg', 'larger.bpg']) await browser.value(`${card(name)}.querySelector('header button').click()`);
+    for (const name of ['large.bpg', 'larger.bpg']) await browser.click(`${card(name)}.querySelector('header button')`);
     await cards(5);
   },
 
@@ -162,7 +162,7 @@ const tests = {
   },
 
   async 'files are removed'() {
-    await browser.value(`document.getElementById('clear').click()`);
+    await browser.click(`document.getElementById('clear')`);
     await cards(0);
     assert.equal(await text('document.getElementById("summary")'), 'No file yet.');
   },
