@@ -31,7 +31,7 @@ export class Card {
     this.#hex = new HexView(name, file, parts);
     this.#bytes.append(element('summary', { textContent: 'Bytes' }), this.#hex.element);
     const verdict = element('p', { className: 'verdict', textContent: this.accepted ? 'accepted' : 'refused' });
-    const title = element('h2', { textContent: name, tabIndex: -1 });
+    const title = element('h2', { textContent: name });
     const head = element('header', {}, title, verdict, element('p', { className: 'size', textContent: bytesText(file.length) }));
     head.append(button('Remove', remove, { 'aria-label': `Remove ${name}` }));
     this.element = element('article', { className: this.accepted ? 'accepted' : 'refused', 'aria-label': name }, head);

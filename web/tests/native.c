@@ -39,79 +39,95 @@ static void put_list(struct list list) {
     put(list.at, list.count * list.size);
 }
 
+/* What a call has: its lists, which are kept until it is answered, its status and its results. */
+static struct list a, b, c, d;
 static uint8_t status;
 static size_t first, second;
 
 static void put_status(void) {
-    put(&status, 1);
+    put(&status, sizeof status);
 }
 
-/* The calls in the order of SIGNATURES in raw.mjs. Lists are kept until the next call, four at most. */
-static struct list a, b, c, d;
+static void put_first(void) {
+    put(&first, sizeof first);
+}
 
-static void call(int number) {
+static void put_both(void) {
+    put_first(), put(&second, sizeof second);
+}
+
+static void read_file(void) {
+    a = get_list(1), b = get_list(8);
+    status = bpg_read(a.at, a.count, b.at, b.count, &first);
+    put_status(), put_list(b), put_first();
+}
+
+static void entry(void) {
     uint32_t tag = UINT32_MAX, start = UINT32_MAX, length = UINT32_MAX;
-    switch (number) {
-    case 0:
-        a = get_list(1), b = get_list(8);
-        status = bpg_read(a.at, a.count, b.at, b.count, &first);
-        put_status(), put_list(b), put(&first, 8);
-        break;
-    case 1:
-        a = get_list(1);
-        status = bpg_entry(a.at, a.count, get_value(), &tag, &start, &length);
-        put_status(), put(&tag, 4), put(&start, 4), put(&length, 4);
-        break;
-    case 2:
-        a = get_list(8), b = get_list(1), c = get_list(1);
-        status = bpg_write(a.at, a.count, b.at, b.count, c.at, c.count, &first);
-        put_status(), put_list(c), put(&first, 8);
-        break;
-    case 3:
-        a = get_list(1), b = get_list(1);
-        status = bpg_canonicalize(a.at, a.count, b.at, b.count, &first, &second);
-        put_status(), put_list(b), put(&first, 8), put(&second, 8);
-        break;
-    case 4:
-        a = get_list(1), b = get_list(2);
-        status = bpg_frames(a.at, a.count, b.at, b.count, &first, &second);
-        put_status(), put_list(b), put(&first, 8), put(&second, 8);
-        break;
-    case 5:
-        a = get_list(1);
-        status = bpg_frame_count(a.at, a.count, &first, &second);
-        put_status(), put(&first, 8), put(&second, 8);
-        break;
-    case 6:
-        a = get_list(1);
-        status = bpg_check_thumbnails(a.at, a.count, &first);
-        put_status(), put(&first, 8);
-        break;
-    case 7:
-        a = get_list(1), b = get_list(4), c = get_list(1), d = get_list(4);
-        status = bpg_batch(a.at, a.count, b.at, b.count, c.at, c.count, d.at, d.count);
-        put_status(), put_list(c), put_list(d);
-        break;
-    case 8:
-        a = get_list(1), b = get_list(1);
-        status = bpg_unescape(a.at, a.count, b.at, b.count, &first);
-        put_status(), put_list(b), put(&first, 8);
-        break;
-    case 9:
-        a = get_list(1), b = get_list(1);
-        status = bpg_escape(a.at, a.count, b.at, b.count, &first);
-        put_status(), put_list(b), put(&first, 8);
-        break;
-    default:
-        exit(2);
-    }
+    a = get_list(1);
+    status = bpg_entry(a.at, a.count, get_value(), &tag, &start, &length);
+    put_status(), put(&tag, sizeof tag), put(&start, sizeof start), put(&length, sizeof length);
 }
+
+static void write_file(void) {
+    a = get_list(8), b = get_list(1), c = get_list(1);
+    status = bpg_write(a.at, a.count, b.at, b.count, c.at, c.count, &first);
+    put_status(), put_list(c), put_first();
+}
+
+static void canonicalize(void) {
+    a = get_list(1), b = get_list(1);
+    status = bpg_canonicalize(a.at, a.count, b.at, b.count, &first, &second);
+    put_status(), put_list(b), put_both();
+}
+
+static void frames(void) {
+    a = get_list(1), b = get_list(2);
+    status = bpg_frames(a.at, a.count, b.at, b.count, &first, &second);
+    put_status(), put_list(b), put_both();
+}
+
+static void frame_count(void) {
+    a = get_list(1);
+    status = bpg_frame_count(a.at, a.count, &first, &second);
+    put_status(), put_both();
+}
+
+static void check_thumbnails(void) {
+    a = get_list(1);
+    status = bpg_check_thumbnails(a.at, a.count, &first);
+    put_status(), put_first();
+}
+
+static void batch(void) {
+    a = get_list(1), b = get_list(4), c = get_list(1), d = get_list(4);
+    status = bpg_batch(a.at, a.count, b.at, b.count, c.at, c.count, d.at, d.count);
+    put_status(), put_list(c), put_list(d);
+}
+
+static void unescape(void) {
+    a = get_list(1), b = get_list(1);
+    status = bpg_unescape(a.at, a.count, b.at, b.count, &first);
+    put_status(), put_list(b), put_first();
+}
+
+static void escape(void) {
+    a = get_list(1), b = get_list(1);
+    status = bpg_escape(a.at, a.count, b.at, b.count, &first);
+    put_status(), put_list(b), put_first();
+}
+
+/* In the order of SIGNATURES in raw.mjs. */
+static void (*const calls[])(void) = {
+    read_file, entry, write_file, canonicalize, frames, frame_count, check_thumbnails, batch, unescape, escape,
+};
 
 int main(void) {
     struct list *lists[] = {&a, &b, &c, &d};
     for (int number; (number = getchar()) != EOF;) {
+        if ((size_t)number >= sizeof calls / sizeof *calls) return 2;
         first = second = SIZE_MAX;
-        call(number);
+        calls[number]();
         for (size_t k = 0; k < 4; k++) {
             free(lists[k]->at);
             lists[k]->at = NULL;
