@@ -177,13 +177,13 @@ export class Bpg {
 
   /** The bytes of a NAL unit without its emulation prevention bytes: a new array, or the start of `out`. */
   unescape(unit, out) {
-    return this.#copied('bpg_unescape', unit, unit.length, out);
+    return this.#copied('bpg_unescape', unit, (length) => length, out);
   }
 
   /** The bytes with emulation prevention bytes, as they stand in a NAL unit: a new array, or the start of `out`. */
   escape(bytes, out) {
     // At most one byte is put in for every two, and one at the end.
-    return this.#copied('bpg_escape', bytes, bytes.length + Math.floor(bytes.length / 2) + 1, out);
+    return this.#copied('bpg_escape', bytes, (length) => length + Math.floor(length / 2) + 1, out);
   }
 
   #readList(file) {
@@ -201,10 +201,12 @@ export class Bpg {
     return this.#memory.result(0);
   }
 
+  // `longest` gives the most bytes that the call answers for so many.
   #copied(call, bytes, longest, out) {
     checkBytes(bytes, 'the argument');
     if (out !== undefined) checkBytes(out, 'the buffer');
-    const length = Math.min(out?.length ?? longest, longest);
+    const most = longest(bytes.length);
+    const length = Math.min(out?.length ?? most, most);
     const at = this.#put(bytes, length);
     const { room, results } = this.#memory;
     const status = this.#calls[call](room, BigInt(bytes.length), at, BigInt(length), results);

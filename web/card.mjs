@@ -14,6 +14,7 @@ function attempt(call) {
   }
 }
 
+const particular = ([name, words]) => element('div', {}, element('dt', { textContent: name }), element('dd', { textContent: words }));
 const section = (title, ...children) => element('section', {}, element('h3', { textContent: title }), ...children);
 
 /** The card of a file: `accepted`, `canonical` (the bytes of its canonical form) and `element`. */
@@ -48,7 +49,7 @@ export class Card {
   #showAccepted(bpg, file, record, parts) {
     this.canonical = bpg.canonicalize(file);
     this.element.append(
-      element('dl', {}, ...particulars(record).map(([name, words]) => element('div', {}, element('dt', { textContent: name }), element('dd', { textContent: words })))),
+      element('dl', {}, ...particulars(record).map(particular)),
       section('Parts', this.#bar(parts), this.#legend(parts)),
       element(
         'div',
@@ -79,7 +80,8 @@ export class Card {
 
   // One tab stop; the arrow keys go from part to part.
   #bar(parts) {
-    const bar = element('div', { className: 'bar', role: 'toolbar', 'aria-label': 'Parts of the file in order' });
+    // Two parts for each of 64 entries have room in a narrow window, too.
+    const bar = element('div', { className: parts.length > 40 ? 'bar dense' : 'bar', role: 'toolbar', 'aria-label': 'Parts of the file in order' });
     for (const [k, { kind, name, start, length }] of parts.entries()) {
       const words = `${name}: at ${start}, ${bytesText(length)}`;
       const piece = button('', () => this.#goTo(start), { className: kind, title: words, 'aria-label': words, tabIndex: k === 0 ? 0 : -1 });
@@ -125,17 +127,20 @@ export class Card {
     const period = record.framePeriodNum / record.framePeriodDen;
     const total = durations.reduce((sum, duration) => sum + duration, 0) * period;
     const { loopCount } = record;
-    const loops = loopCount === 0 ? 'played forever' : loopCount === 1 ? 'played once' : `played ${loopCount} times, ${timeText(loopCount * total)} in all`;
-    const words = `${durations.length} frames, a period of ${record.framePeriodNum}/${record.framePeriodDen} s; one loop takes ${timeText(total)}, ${loops}`;
+    const times = loopCount === 1 ? 'played once' : `played ${loopCount} times, ${timeText(loopCount * total)} in all`;
+    const loop = `one loop takes ${timeText(total)}, ${loopCount === 0 ? 'played forever' : times}`;
+    const words = `${durations.length} frames, a period of ${record.framePeriodNum}/${record.framePeriodDen} s; ${loop}`;
     const titled = (duration) => ({ textContent: timeText(duration * period), title: `${duration} ${duration === 1 ? 'period' : 'periods'}` });
     const items = Array.from(durations, (duration) => element('li', titled(duration)));
-    return [element('p', { textContent: words }), element('ol', { className: 'frames', tabIndex: 0, 'aria-label': 'How long each frame is shown' }, ...items)];
+    const list = element('ol', { className: 'frames', tabIndex: 0, 'aria-label': 'How long each frame is shown' }, ...items);
+    return [element('p', { textContent: words }), list];
   }
 
   #canonicalForm(file) {
     const saved = file.length - this.canonical.length;
     const itself = saved === 0 && this.canonical.every((byte, k) => byte === file[k]);
-    const words = itself ? 'This file is its own canonical form.' : `${bytesText(this.canonical.length)}, ${saved === 0 ? 'as many as' : `${saved} fewer than`} the file.`;
+    const compared = saved === 0 ? 'as many as' : `${saved.toLocaleString('en')} fewer than`;
+    const words = itself ? 'This file is its own canonical form.' : `${bytesText(this.canonical.length)}, ${compared} the file.`;
     const save = button('Download', () => this.#download(), { 'aria-label': `Download the canonical form of ${this.name}` });
     return [element('p', { className: 'canonical' }, words, save), this.#same];
   }

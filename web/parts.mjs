@@ -3,7 +3,14 @@
 const TAGS = { 1: 'EXIF', 2: 'ICC profile', 3: 'XMP', 4: 'thumbnail', 5: 'animation' };
 export const tagName = (tag) => TAGS[tag] ?? `tag ${tag}`;
 
-const PIXEL_FORMATS = ['grayscale', '4:2:0, JPEG chroma position', '4:2:2, JPEG chroma position', '4:4:4', '4:2:0, MPEG2 chroma position', '4:2:2, MPEG2 chroma position'];
+const PIXEL_FORMATS = [
+  'grayscale',
+  '4:2:0, JPEG chroma position',
+  '4:2:2, JPEG chroma position',
+  '4:4:4',
+  '4:2:0, MPEG2 chroma position',
+  '4:2:2, MPEG2 chroma position',
+];
 const COLOR_SPACES = ['YCbCr, BT 601', 'RGB', 'YCgCo', 'YCbCr, BT 709', 'YCbCr, BT 2020'];
 
 function alphaName({ alpha1Flag, alpha2Flag }) {

@@ -17,8 +17,8 @@ export class Browser {
 
   static async start(name) {
     const browser = new Browser();
-    const flags = ['--headless', '--no-sandbox', '--disable-gpu', '--hide-scrollbars', '--no-first-run', '--remote-debugging-pipe', `--user-data-dir=${browser.#profile}`];
-    browser.#process = spawn(name, flags, { stdio: ['ignore', 'ignore', 'ignore', 'pipe', 'pipe'] });
+    const flags = ['--headless', '--no-sandbox', '--disable-gpu', '--hide-scrollbars', '--no-first-run', '--remote-debugging-pipe'];
+    browser.#process = spawn(name, [...flags, `--user-data-dir=${browser.#profile}`], { stdio: ['ignore', 'ignore', 'ignore', 'pipe', 'pipe'] });
     browser.#process.on('exit', () => browser.#waiting.forEach(({ reject }) => reject(new Error('Chromium ended'))));
     browser.#listen(browser.#process.stdio[4]);
     const { targetId } = await browser.send('Target.createTarget', { url: 'about:blank' });
@@ -72,7 +72,7 @@ export class Browser {
   }
 
   async key(key, code = key, text = undefined) {
-    const windowsVirtualKeyCode = { Tab: 9, Enter: 13, ' ': 32, End: 35, Home: 36, ArrowLeft: 37, ArrowUp: 38, ArrowRight: 39, ArrowDown: 40, PageDown: 34 }[key];
+    const windowsVirtualKeyCode = { Tab: 9, Enter: 13, PageDown: 34, End: 35, ArrowRight: 39, ArrowDown: 40 }[key];
     await this.send('Input.dispatchKeyEvent', { type: text === undefined ? 'rawKeyDown' : 'keyDown', key, code, text, windowsVirtualKeyCode });
     await this.send('Input.dispatchKeyEvent', { type: 'keyUp', key, code, windowsVirtualKeyCode });
   }

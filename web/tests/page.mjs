@@ -59,7 +59,8 @@ const tests = {
   },
 
   async 'dropped files are shown'() {
-    await browser.drop([stored('loop.bpg', loop()), stored('a.bpg', A), stored('b.bpg', B), stored('spoiled.bpg', spoiled), stored('cut.bpg', A.slice(0, 9))]);
+    const files = { 'loop.bpg': loop(), 'a.bpg': A, 'b.bpg': B, 'spoiled.bpg': spoiled, 'cut.bpg': A.slice(0, 9) };
+    await browser.drop(Object.entries(files).map(([name, bytes]) => stored(name, bytes)));
     await cards(5);
     assert.equal(await text('document.getElementById("summary")'), '5 files: 3 accepted, 2 refused.');
   },
@@ -67,7 +68,8 @@ const tests = {
   async 'particulars, entries and frames are those of the file'() {
     const shown = await text(card('loop.bpg'));
     for (const words of ['1280 × 720', '4:2:0', 'YCbCr, BT 601', 'animated', '3,159 bytes']) assert.ok(shown.includes(words), words);
-    const rows = await browser.value(`[...${card('loop.bpg')}.querySelectorAll('tbody tr')].map((row) => [...row.cells].map((cell) => cell.innerText).join(' '))`);
+    const row = `(row) => [...row.cells].map((cell) => cell.innerText).join(' ')`;
+    const rows = await browser.value(`[...${card('loop.bpg')}.querySelectorAll('tbody tr')].map(${row})`);
     assert.deepEqual(rows, ['EXIF 16 155', 'ICC profile 174 560', 'XMP 737 266', 'thumbnail 1006 203', 'animation 1211 5', 'tag 300 1219 7']);
     assert.ok(shown.includes('12 frames, a period of 1/10 s; one loop takes 2.8 s, played 3 times, 8.4 s in all'));
     const frames = await browser.value(`[...${card('loop.bpg')}.querySelectorAll('.frames li')].map((frame) => frame.innerText)`);
