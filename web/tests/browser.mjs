@@ -19,6 +19,7 @@ export class Browser {
     const browser = new Browser();
     const flags = ['--headless', '--no-sandbox', '--disable-gpu', '--hide-scrollbars', '--no-first-run', '--remote-debugging-pipe'];
     browser.#process = spawn(name, [...flags, `--user-data-dir=${browser.#profile}`], { stdio: ['ignore', 'ignore', 'ignore', 'pipe', 'pipe'] });
+    process.on('exit', () => browser.#process.kill());
     browser.#process.on('exit', () => browser.#waiting.forEach(({ reject }) => reject(new Error('Chromium ended'))));
     browser.#listen(browser.#process.stdio[4]);
     const { targetId } = await browser.send('Target.createTarget', { url: 'about:blank' });

@@ -38,6 +38,10 @@ const server = createServer((request, response) => {
 await new Promise((resolve) => server.listen(0, '127.0.0.1', resolve));
 
 const browser = await Browser.start(chromium);
+setTimeout(() => {
+  console.log('page: FAILED, it took more than 90 seconds');
+  process.exit(1);
+}, 90000).unref();
 const faults = [];
 browser.on('Runtime.exceptionThrown', ({ exceptionDetails }) => faults.push(exceptionDetails.exception?.description ?? exceptionDetails.text));
 browser.on('Log.entryAdded', ({ entry }) => faults.push(entry.text));
