@@ -1,7 +1,7 @@
 // Runs the calls for C and Rust on a file and prints a line: the file; status, offset and list of reading it, for a list of two numbers
-// more than a reading has, and for one of one fewer; whether there is an entry, tag and range, for 18 indices; status, offset, count
-// and buffer of canonicalizing it, for a buffer as long as the file, and for one of eight bytes. Lists are filled with 9 before, and
-// buffers with a5.
+// more than the longest has, and for one that has room for no entry; whether there is an entry, tag and range, for 18 indices; status,
+// offset, count and buffer of canonicalizing it, for a buffer as long as the file, and for one of eight bytes. Lists are filled with 9
+// before, and buffers with a5.
 use crate::text;
 
 fn show_read(file: &[u8], numbers: &mut [u64]) {
@@ -51,7 +51,7 @@ fn show_canonical_in(file: &[u8], size: usize) {
 
 pub(crate) fn show(file: &[u8]) {
     let mut longer = [9u64; 119];
-    let mut shorter = [9u64; 116];
+    let mut shorter = [9u64; 71];
     text::show_hex(file);
     show_read(file, &mut longer);
     show_read(file, &mut shorter);

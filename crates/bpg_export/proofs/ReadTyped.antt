@@ -1,4 +1,4 @@
--- A record that was read is one that its types hold.
+-- A record that was read is one that a list can give.
 use mathlib.Core.Path.{_≡_, refl, sym, ap, subst}
 use mathlib.Core.Bool.{Bool, true, false}
 use mathlib.Core.List.{List, [], _∷_, map}
@@ -23,7 +23,7 @@ use Rattle.bpg_format.proofs.RecordLaws.{entries-length, content-record}
 use Rattle.bpg_format.proofs.ReadingLaws.{read-is}
 use Rattle.bpg_format.proofs.Writing.{record-writable}
 use Rattle.bpg_export_list.specs.Numbers.{entryNumbers}
-use Rattle.bpg_export_list.specs.Typing.{OfBits, TypedHeader, TypedRecord}
+use Rattle.bpg_import_list.specs.Typing.{OfBits, TypedHeader, TypedRecord, Listable}
 
 -- ---- a header
 
@@ -116,10 +116,16 @@ refused-typed =
       data-range = omega arith;
     }
 
-pub read-typed : (f : List ℕ) → All Byte f → TypedRecord (readFile f .«record»)
+zeros : (n : ℕ) → All (λ (e : Entry). e ≡ zeroEntry) (replicate n zeroEntry)
+zeros zero = tt
+zeros (suc n) = (refl, zeros n)
+
+pub read-listable : (f : List ℕ) → All Byte f → Listable (readFile f .«record»)
 unfolding readFile
-read-typed f bytes = by (readContent f) refl
+read-listable f bytes = by (readContent f) refl
   where
-    by : (m : Outcome Content) → readContent f ≡ m → TypedRecord (answerOf m .«record»)
-    by (ok c) e = content-typed c (read-is f bytes c e .0)
-    by (error s o) e = refused-typed
+    by : (m : Outcome Content) → readContent f ≡ m → Listable (answerOf m .«record»)
+    by (ok c) e =
+        let r = read-is f bytes c e .0 in
+        record { typed = content-typed c r; few = writable c r .few; unused = writable c r .unused }
+    by (error s o) e = record { typed = refused-typed; few = omega arith; unused = zeros maxEntries }

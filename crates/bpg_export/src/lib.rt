@@ -14,9 +14,10 @@ ghost use lib.Dec.{ltb};
 ghost use Rattle.bpg_format.specs.Records.{readFile};
 ghost use Rattle.bpg_format.specs.Parts.{entryOf};
 ghost use Rattle.bpg_format.specs.Pictures.{canonicalFile, canonicalBuffer};
-ghost use Rattle.bpg_export.specs.Calls.{readAnswer, readNumbers, writeAnswer, writeBytes};
+ghost use Rattle.bpg_import_list.specs.Calls.{writeAnswer, writeBytes};
+ghost use Rattle.bpg_export.specs.Calls.{readAnswer, readNumbers};
 
-// Reads a file: status and offset, and the 117 numbers of its record and coded size.
+// Reads a file: status and offset, and the numbers of its record and coded size, as many as it has entries for.
 #[no_mangle]
 pub extern "C" fn bpg_read(file: &[u8], numbers: &mut [u64], offset: &mut usize) -> u8
     ensures { λ r. ⌜ r ≡ readAnswer (now (file .entry)) (now (numbers .entry)) .status ⌝ }
@@ -59,20 +60,14 @@ pub extern "C" fn bpg_entry(
     }
 }
 
-// Writes the file of a record, given as its 115 numbers, whose ranges are in `source`, from the start of `out`: status and count.
+// Writes the file of a record, given as its numbers, whose ranges are in `source`, from the start of `out`: status and count.
 #[no_mangle]
 pub extern "C" fn bpg_write(numbers: &[u64], source: &[u8], out: &mut [u8], count: &mut usize) -> u8
     ensures { λ r. ⌜ r ≡ writeAnswer (now (numbers .entry)) (now (source .entry)) (now (out .entry)) .status ⌝ }
     ensures { λ _. ⌜ now (count .exit) ≡ writeAnswer (now (numbers .entry)) (now (source .entry)) (now (out .entry)) .count ⌝ }
     ensures { λ _. ⌜ now (out .exit) ≡ writeBytes (now (numbers .entry)) (now (source .entry)) (now (out .entry)) ⌝ }
 {
-    let record = bpg_export_list::truncated(numbers);
-    let status = bpg_export_list::check(numbers, record);
-    if status != 0 {
-        *count = 0;
-        return status;
-    }
-    let written = bpg_writer::write(record, source, out);
+    let written = bpg_import_list::write(numbers, source, out);
     *count = written.count;
     written.status
 }

@@ -1,6 +1,3 @@
 -- Laws of the lists of numbers, and of writing them.
 pub mod NumberLaws
 pub mod WriteLaws
-pub mod ReadLaws
-pub mod RecordLists
-pub mod Theorems

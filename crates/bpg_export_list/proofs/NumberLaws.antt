@@ -1,4 +1,4 @@
--- A record's list in parts, lists compared, and a list's entries.
+-- A record's list in parts.
 use mathlib.Core.Path.{_≡_, refl, sym, ap, ap₂, _∙_}
 use mathlib.Core.Bool.{Bool, true, false, _&&_, and-false, and-assoc}
 use mathlib.Core.List.{List, [], _∷_, _++_, map, append-assoc, append-nil}
@@ -17,8 +17,8 @@ use Rattle.bpg_codec.proofs.Buffer.{length-splice, stored, written-written}
 use Rattle.bpg_format.specs.declared.record.Entry.{Entry}
 use Rattle.bpg_format.specs.declared.record.Header.{Header}
 use Rattle.bpg_format.specs.declared.record.Record.{Record}
-use Rattle.bpg_export_list.specs.Numbers.{loopStart, recordLength, headNumbers, rangeNumbers, entryNumbers, entriesNumbers}
-use Rattle.bpg_export_list.specs.Numbers.{animationNumbers, headerNumbers, headersNumbers, numbersOf, entryAt, listEntries, beginsWith}
+use Rattle.bpg_export_list.specs.Numbers.{fixedLength, listLength, headNumbers, rangeNumbers, entryNumbers, entriesNumbers}
+use Rattle.bpg_export_list.specs.Numbers.{animationNumbers, headerNumbers, headersNumbers, fixedNumbers}
 
 -- a flag as a number
 pub flag-number : (t : Bool) → boolByte t ≡ bit t
@@ -84,69 +84,39 @@ module _ (out : List ℕ) where
   written-length at l h = ap length (sym (stored out at l h .0)) ∙ length-splice out at l h
 
   -- one more entry
-  module _ (es : List Entry) (sixteen : length es ≡ maxEntries) (long : loopStart ≤ length out) where
-    pub first-length : (k : ℕ) → k ≤ maxEntries → length (entriesNumbers (take k es)) ≡ 3 * k
+  module _ (es : List Entry) (used : ℕ) (few : used ≤ length es) (long : listLength used ≤ length out) where
+    pub first-length : (k : ℕ) → k ≤ used → length (entriesNumbers (take k es)) ≡ 3 * k
     first-length k h = entries-length (take k es) ∙ ap (λ (n : ℕ). 3 * n) (length-take-le k es (omega arith))
 
-    pub entry-written : (k : ℕ) (d : Entry) (o p : List ℕ) → k < maxEntries → o ≡ written out 12 (entriesNumbers (take k es)) → p ≡ written o (12 + 3 * k) (entryNumbers (getD es k d))
-        → p ≡ written out 12 (entriesNumbers (take (k + 1) es))
+    pub entry-written : (k : ℕ) (d : Entry) (o p : List ℕ) → k < used → o ≡ written out fixedLength (entriesNumbers (take k es))
+        → p ≡ written o (listLength k) (entryNumbers (getD es k d)) → p ≡ written out fixedLength (entriesNumbers (take (k + 1) es))
     entry-written k d o p h q r =
-        let f : Filled out 12 (12 + 3 * k) (entriesNumbers (take k es)) o = record { is = q; ends = ap (λ (n : ℕ). 12 + n) (first-length k (omega arith)) } in
-        filled-next f (entryNumbers (getD es k d)) (r, refl) (omega arith) .is ∙ ap (written out 12) (sym (entries-next es k d (omega arith)))
+        let f : Filled out fixedLength (listLength k) (entriesNumbers (take k es)) o = record { is = q; ends = ap (λ (n : ℕ). fixedLength + n) (first-length k (omega arith)) } in
+        filled-next f (entryNumbers (getD es k d)) (r, refl) (omega arith) .is ∙ ap (written out fixedLength) (sym (entries-next es k d (omega arith)))
 
-    pub entries-written : (k : ℕ) (o : List ℕ) → k ≡ maxEntries → o ≡ written out 12 (entriesNumbers (take k es))
-        → (o ≡ written out 12 (entriesNumbers es)) × (length (entriesNumbers es) ≡ 3 * maxEntries)
-    entries-written k o e q =
-        (q ∙ ap (λ (l : List Entry). written out 12 (entriesNumbers l)) (take-all k es (omega arith)), omega (arith, entries-length es))
+-- as many as there are
+pub take-used : (n : ℕ) (es : List Entry) → take (length (take n es)) es ≡ take n es
+take-used zero es = refl
+take-used (suc n) [] = refl
+take-used (suc n) (e ∷ es) = ap (λ (l : List Entry). e ∷ l) (take-used n es)
 
-  -- a list that fills the buffer
-  pub written-whole : (l : List ℕ) → length l ≡ length out → written out 0 l ≡ l
-  written-whole l e =
-      let n : 0 + length l ≡ length out = omega arith in
-      sym (stored out 0 l (omega arith) .0) ∙ ap (λ (m : List ℕ). l ++ m) (ap (λ (k : ℕ). drop k out) n ∙ drop-length out) ∙ append-nil l
+in-order : (h l a b d c : List ℕ) → ((((h ++ l) ++ a) ++ b) ++ d) ++ c ≡ h ++ (l ++ ((a ++ b) ++ (d ++ c)))
+in-order h l a b d c = simp append-assoc
 
-in-order : (h e l a b d : List ℕ) → ((((h ++ e) ++ l) ++ a) ++ b) ++ d ≡ h ++ (e ++ (l ++ ((a ++ b) ++ d)))
-in-order h e l a b d = simp append-assoc
+-- the parts of the fixed numbers
+module _ (r : Record) (w h : ℕ) (d : Header) (two : length (r .headers) ≡ 2) where
+  abbrev last : List ℕ
+  last = w ∷ h ∷ r .«entry_count» ∷ []
 
--- the parts of a record
-module _ (r : Record) (d : Header) (two : length (r .headers) ≡ 2) where
   abbrev parts : List ℕ
   parts =
-      ((((headNumbers r ++ entriesNumbers (r .entries)) ++ animationNumbers r) ++ headerNumbers (getD (r .headers) 0 d)) ++ headerNumbers (getD (r .headers) 1 d)) ++ rangeNumbers (r .«data»)
+      ((((headNumbers r ++ animationNumbers r) ++ headerNumbers (getD (r .headers) 0 d)) ++ headerNumbers (getD (r .headers) 1 d)) ++ rangeNumbers (r .«data»)) ++ last
 
-  parts-are : parts ≡ numbersOf r
-  unfolding numbersOf
+  parts-are : parts ≡ fixedNumbers r w h
+  unfolding fixedNumbers
   parts-are =
-      in-order (headNumbers r) (entriesNumbers (r .entries)) (animationNumbers r) _ _ (rangeNumbers (r .«data»))
-      ∙ ap (λ (l : List ℕ). headNumbers r ++ (entriesNumbers (r .entries) ++ (animationNumbers r ++ (l ++ rangeNumbers (r .«data»))))) (sym (two-headers (r .headers) d two))
+      in-order (headNumbers r) (animationNumbers r) (headerNumbers (getD (r .headers) 0 d)) (headerNumbers (getD (r .headers) 1 d)) (rangeNumbers (r .«data»)) last
+      ∙ ap (λ (l : List ℕ). headNumbers r ++ (animationNumbers r ++ (l ++ (rangeNumbers (r .«data») ++ last)))) (sym (two-headers (r .headers) d two))
 
-  pub record-written : {out o : List ℕ} → Filled out 0 recordLength parts o → (o ≡ written out 0 (numbersOf r)) × (length (numbersOf r) ≡ recordLength)
-  record-written {out} f = (f .is ∙ ap (written out 0) parts-are, omega (arith, ap length parts-are, f .ends))
-
--- ---- lists compared
-
-pub begins-short : (a l : List ℕ) → length l < length a → beginsWith a l ≡ false
-unfolding beginsWith
-begins-short [] l h = absurd (omega arith)
-begins-short (x ∷ a) [] h = refl
-begins-short (x ∷ a) (y ∷ l) h = rw (begins-short a l (omega arith)) (and-false (eqb x y))
-
-module _ (a l : List ℕ) (k : ℕ) where
-  pub begins-end : (s : Bool) → length a ≤ k → (s && beginsWith (drop k a) (drop k l)) ≡ s
-  unfolding beginsWith
-  begins-end true h = rw (drop-of-length-le a h)
-  begins-end false h = refl
-
-  pub begins-next : (s : Bool) → k < length a → k < length l
-      → (s && beginsWith (drop k a) (drop k l)) ≡ ((s && eqb (getD a k 0) (getD l k 0)) && beginsWith (drop (k + 1) a) (drop (k + 1) l))
-  unfolding beginsWith
-  begins-next s h j = rw (add-one, drop-cons a k 0, drop-cons l k 0) (sym (and-assoc s (eqb (getD a k 0) (getD l k 0)) (beginsWith (drop (suc k) a) (drop (suc k) l))))
-
--- ---- the entries of a list
-
-pub entries-more : (l : List ℕ) (at k : ℕ) → listEntries l at (suc k) ≡ listEntries l at k ++ (entryAt l (at + 3 * k) ∷ [])
-unfolding listEntries
-entries-more l at zero = ap (λ (n : ℕ). entryAt l n ∷ []) (omega arith)
-entries-more l at (suc k) =
-    let n : at + 3 + 3 * k ≡ at + 3 * suc k = omega arith in
-    ap (λ (es : List Entry). entryAt l at ∷ es) (entries-more l (at + 3) k ∙ ap (λ (m : ℕ). listEntries l (at + 3) k ++ (entryAt l m ∷ [])) n)
+  pub fixed-written : {out o : List ℕ} → Filled out 0 fixedLength parts o → (o ≡ written out 0 (fixedNumbers r w h)) × (length (fixedNumbers r w h) ≡ fixedLength)
+  fixed-written {out} f = (f .is ∙ ap (written out 0) parts-are, omega (arith, ap length parts-are, f .ends))

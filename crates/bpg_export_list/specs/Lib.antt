@@ -1,5 +1,3 @@
--- A record as a list of numbers, and what the calls over such lists answer.
+-- A reading as a list of numbers, and what listing it answers.
 pub mod Numbers
 pub mod Calls
-pub mod Typing
-pub mod Theorems

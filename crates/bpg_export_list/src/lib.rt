@@ -1,8 +1,10 @@
-// A record as a list of numbers, and back: for callers that do not have its type.
+// A reading as a list of numbers, for callers that do not have its type.
 mod list;
-mod record;
 
-pub use list::check;
+pub use list::ALPHA;
+pub use list::COLOR;
+pub use list::COUNT;
+pub use list::DATA;
+pub use list::FIXED;
+pub use list::LOOP;
 pub use list::write;
-pub use record::read;
-pub use record::truncated;

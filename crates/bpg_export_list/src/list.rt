@@ -1,4 +1,4 @@
-// From a record to its list of numbers, and whether a list is that of a record.
+// From a reading to its list of numbers.
 use bpg_format::Header;
 use bpg_format::MAX_ENTRIES;
 use bpg_format::Range;
@@ -7,26 +7,31 @@ use bpg_format::Record;
 use bpg_format::Written;
 use bpg_format::written_refused;
 ghost use mathlib.Core.Path.{_≡_};
-ghost use Prim.Native.Nat.{_*_, _≤_};
-ghost use lib.ListN.{length as count};
+ghost use mathlib.Core.List.{[], _∷_};
+ghost use Prim.Native.Nat.{_≤_};
+ghost use lib.ListN.{length as count, take};
 ghost use Rattle.bpg_codec.specs.Buffer.{written};
 ghost use Rattle.bpg_format.specs.Limits.{maxEntries};
+ghost use Rattle.bpg_format.specs.Records.{usedEntries};
 ghost use Rattle.bpg_format.specs.Write.{writtenAnswer, writtenBuffer};
-ghost use Rattle.bpg_export_list.specs.Numbers.{loopStart, dataStart, recordLength, headNumbers, rangeNumbers, entriesNumbers, animationNumbers, headerNumbers, numbersOf, beginsWith};
-ghost use Rattle.bpg_export_list.specs.Calls.{listed, listStatus};
+ghost use Rattle.bpg_export_list.specs.Numbers.{loopStart, dataStart, codedStart, fixedLength, listLength, headNumbers, animationNumbers};
+ghost use Rattle.bpg_export_list.specs.Numbers.{headerNumbers, rangeNumbers, fixedNumbers, entriesNumbers};
+ghost use Rattle.bpg_export_list.specs.Calls.{listed};
 
-// Where the parts of a list begin. A record ends at RECORD, and a reading, which adds the coded width and height, at READING.
-pub(crate) const LOOP: usize = 12 + 3 * MAX_ENTRIES;
+// Where the parts of a list begin; the entries begin at FIXED.
+pub const LOOP: usize = 11;
 
-pub(crate) const ALPHA: usize = LOOP + 3;
+pub const ALPHA: usize = LOOP + 3;
 
-pub(crate) const COLOR: usize = ALPHA + 25;
+pub const COLOR: usize = ALPHA + 25;
 
-pub(crate) const DATA: usize = COLOR + 25;
+pub const DATA: usize = COLOR + 25;
 
-pub(crate) const RECORD: usize = DATA + 2;
+const CODED: usize = DATA + 2;
 
-const READING: usize = RECORD + 2;
+pub const COUNT: usize = CODED + 2;
+
+pub const FIXED: usize = COUNT + 1;
 
 // Writes `part` at `at`; where it does not fit, nothing.
 fn put(out: &mut [u64], at: usize, part: &[u64])
@@ -55,7 +60,7 @@ fn copy(to: &mut [u64], from: &[u64])
     }
 }
 
-fn first_numbers(record: Record) -> [u64; 12]
+fn head_numbers(record: Record) -> [u64; 11]
     ensures { λ r. ⌜ r ≡ headNumbers «record» ⌝ }
 {
     [
@@ -70,7 +75,6 @@ fn first_numbers(record: Record) -> [u64; 12]
         record.picture_width as u64,
         record.picture_height as u64,
         record.explicit_length as u64,
-        record.entry_count as u64,
     ]
 }
 
@@ -110,27 +114,8 @@ fn header_numbers(header: Header) -> [u64; 25]
 fn put_head(out: &mut [u64], record: Record)
     ensures { λ _. ⌜ now (out .exit) ≡ written (now (out .entry)) 0 (headNumbers «record») ⌝ }
 {
-    let part = first_numbers(record);
+    let part = head_numbers(record);
     put(out, 0, &part);
-}
-
-fn put_entries(out: &mut [u64], record: Record)
-    requires { ⌜ loopStart ≤ count (now out) ⌝ }
-    ensures { λ _. ⌜ now (out .exit) ≡ written (now (out .entry)) 12 (entriesNumbers («record» .entries)) ⌝ }
-    ensures { λ _. ⌜ count (entriesNumbers («record» .entries)) ≡ 3 * maxEntries ⌝ }
-{
-    let entries = record.entries;
-    let mut k: usize = 0;
-    while k < MAX_ENTRIES {
-        let entry = entries[k];
-        let part = [
-            entry.tag as u64,
-            entry.payload.start as u64,
-            entry.payload.length as u64,
-        ];
-        put(out, 12 + 3 * k, &part);
-        k += 1;
-    }
 }
 
 fn put_loop(out: &mut [u64], record: Record)
@@ -159,24 +144,62 @@ fn put_data(out: &mut [u64], data: Range)
     put(out, DATA, &part);
 }
 
-// The numbers of a record, from the start of `out`.
-fn put_record(out: &mut [u64], record: Record)
-    requires { ⌜ recordLength ≤ count (now out) ⌝ }
-    ensures { λ _. ⌜ now (out .exit) ≡ written (now (out .entry)) 0 (numbersOf «record») ⌝ }
-    ensures { λ _. ⌜ count (numbersOf «record») ≡ recordLength ⌝ }
+fn put_last(out: &mut [u64], coded_width: u64, coded_height: u64, entry_count: u32)
+    ensures { λ _. ⌜ now (out .exit) ≡ written (now (out .entry)) codedStart («coded_width» ∷ «coded_height» ∷ «entry_count» ∷ []) ⌝ }
+{
+    let part = [coded_width, coded_height, entry_count as u64];
+    put(out, CODED, &part);
+}
+
+// The numbers that every list has, from the start of `out`.
+fn put_fixed(out: &mut [u64], record: Record, coded_width: u64, coded_height: u64)
+    requires { ⌜ fixedLength ≤ count (now out) ⌝ }
+    ensures { λ _. ⌜ now (out .exit) ≡ written (now (out .entry)) 0 (fixedNumbers «record» «coded_width» «coded_height») ⌝ }
+    ensures { λ _. ⌜ count (fixedNumbers «record» «coded_width» «coded_height») ≡ fixedLength ⌝ }
 {
     let alpha = record.headers[0];
     let color = record.headers[1];
     let data = record.data;
     put_head(out, record);
-    put_entries(out, record);
     put_loop(out, record);
     put_header(out, ALPHA, alpha);
     put_header(out, COLOR, color);
     put_data(out, data);
+    put_last(out, coded_width, coded_height, record.entry_count);
 }
 
-// The numbers of a reading, from the start of `numbers`; a refusal leaves the list as it is.
+// How many entries are in use.
+fn used_entries(record: Record) -> usize
+    ensures { λ r. ⌜ r ≡ count (usedEntries «record») ⌝ }
+    ensures { λ r. ⌜ r ≤ maxEntries ⌝ }
+{
+    if record.entry_count as usize <= MAX_ENTRIES {
+        return record.entry_count as usize;
+    }
+    MAX_ENTRIES
+}
+
+// The first entries, after the fixed numbers.
+fn put_entries(out: &mut [u64], record: Record, used: usize)
+    requires { ⌜ used ≤ maxEntries ⌝ }
+    requires { ⌜ listLength used ≤ count (now out) ⌝ }
+    ensures { λ _. ⌜ now (out .exit) ≡ written (now (out .entry)) fixedLength (entriesNumbers (take used («record» .entries))) ⌝ }
+{
+    let entries = record.entries;
+    let mut k: usize = 0;
+    while k < used {
+        let entry = entries[k];
+        let part = [
+            entry.tag as u64,
+            entry.payload.start as u64,
+            entry.payload.length as u64,
+        ];
+        put(out, FIXED + 3 * k, &part);
+        k += 1;
+    }
+}
+
+// The numbers of a reading, from the start of `numbers`: those in use, and what stands after them is left. A refusal leaves the whole list.
 pub fn write(reading: Reading, numbers: &mut [u64]) -> Written
     ensures { λ r. ⌜ r ≡ writtenAnswer (listed (count (now (numbers .entry))) reading) ⌝ }
     ensures { λ _. ⌜ now (numbers .exit) ≡ writtenBuffer (listed (count (now (numbers .entry))) reading) (now (numbers .entry)) ⌝ }
@@ -184,54 +207,16 @@ pub fn write(reading: Reading, numbers: &mut [u64]) -> Written
     if reading.status != 0 {
         return written_refused(reading.status, reading.offset);
     }
-    if numbers.len() < READING {
+    let found = reading.record;
+    let used = used_entries(found);
+    if numbers.len() < FIXED + 3 * used {
         return written_refused(20, 0);
     }
-    let found = reading.record;
-    put_record(numbers, found);
-    let coded = [reading.coded_width, reading.coded_height];
-    put(numbers, RECORD, &coded);
+    put_fixed(numbers, found, reading.coded_width, reading.coded_height);
+    put_entries(numbers, found, used);
     Written {
         status: 0,
         offset: 0,
-        count: READING,
+        count: FIXED + 3 * used,
     }
-}
-
-// Whether the list begins with `part`. Every number is compared, since a loop without an exit takes several in a step.
-fn begins_with(part: &[u64], numbers: &[u64]) -> bool
-    ensures { λ r. ⌜ r ≡ beginsWith (now (part .entry)) (now (numbers .entry)) ⌝ }
-{
-    if numbers.len() < part.len() {
-        return false;
-    }
-    let mut same = true;
-    let mut k: usize = 0;
-    while k < part.len() {
-        same = same & (part[k] == numbers[k]);
-        k += 1;
-    }
-    same
-}
-
-// Whether the list begins with the numbers of this record.
-fn is_of(numbers: &[u64], record: Record) -> bool
-    ensures { λ r. ⌜ r ≡ beginsWith (numbersOf «record») (now (numbers .entry)) ⌝ }
-{
-    let mut own = [0u64; RECORD];
-    put_record(&mut own, record);
-    begins_with(&own, numbers)
-}
-
-// 20 for a list that is too short, 19 for one that does not begin with the numbers of this record, else 0.
-pub fn check(numbers: &[u64], record: Record) -> u8
-    ensures { λ r. ⌜ r ≡ listStatus (now (numbers .entry)) «record» ⌝ }
-{
-    if numbers.len() < RECORD {
-        return 20;
-    }
-    if !is_of(numbers, record) {
-        return 19;
-    }
-    0
 }

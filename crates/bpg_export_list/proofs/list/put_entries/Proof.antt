@@ -10,16 +10,16 @@ use Rattle.bpg_codec.proofs.Buffer.{stored-none}
 use Rattle.bpg_format.specs.Limits.{maxEntries}
 use Rattle.bpg_format.specs.declared.record.Entry.{Entry}
 use Rattle.bpg_format.proofs.Typed.{entries-count}
-use Rattle.bpg_export_list.specs.Numbers.{loopStart, entriesNumbers}
-use Rattle.bpg_export_list.proofs.NumberLaws.{written-length, first-length, entry-written, entries-written}
+use Rattle.bpg_export_list.specs.Numbers.{fixedLength, entriesNumbers}
+use Rattle.bpg_export_list.proofs.NumberLaws.{written-length, first-length, entry-written}
 use Rattle.bpg_export_list.proofs.list.put_entries.Statement.{statement}
 use Rattle.bpg_export_list.proofs.list.put_entries.Tie as tie
 
 abbrev Inv-loop : tie.InvT-loop
-Inv-loop out₀ entries k₀ out k = (k ≤ maxEntries) × (out ≡ written out₀ 12 (entriesNumbers (take k entries)))
+Inv-loop out₀ used entries k₀ out k = (k ≤ used) × (out ≡ written out₀ fixedLength (entriesNumbers (take k entries)))
 
 abbrev μ-loop : tie.MeasureT-loop
-μ-loop out₀ entries k₀ out k = maxEntries - k
+μ-loop out₀ used entries k₀ out k = used - k
 
 -- where the loop began
 module _ (s : tie.Start Inv-loop μ-loop) where
@@ -32,12 +32,12 @@ module _ (s : tie.Start Inv-loop μ-loop) where
   abbrev out : List ℕ
   out = s .args .out .now
 
-none : (l : List ℕ) (es : List Entry) → loopStart ≤ length l → l ≡ written l 12 (entriesNumbers (take 0 es))
+none : (l : List ℕ) (es : List Entry) → fixedLength ≤ length l → l ≡ written l fixedLength (entriesNumbers (take 0 es))
 unfolding entriesNumbers
-none l es h = stored-none l 12 (omega arith) .0
+none l es h = stored-none l fixedLength h .0
 
 loop-holds : tie.Need-loop-holds Inv-loop μ-loop
-loop-holds c = let s = c .before .before in (omega arith, none (out s) (es s) (s .pre))
+loop-holds c = let s = c .before .before in (omega arith, none (out s) (es s) (omega (arith, s .pre .1)))
 
 array-copy-out-entry : tie.Need-array-copy-out-entry Inv-loop μ-loop
 array-copy-out-entry c = omega (arith, whole (c .before .before .before .before))
@@ -48,7 +48,7 @@ loop-again c =
     let t = w .before .before .before .before .before .before .before in
     let s = t .before .before .before .before in
     let l = t .before .loop in
-    let written = entry-written (out s) (es s) (whole s) (s .pre) (l .k) _ (l .out) _ (t .loop-test .taken) (l .inv .1) (w .put .ensures) in
+    let written = entry-written (out s) (es s) (s .args .used) (omega (arith, s .pre .0, whole s)) (s .pre .1) (l .k) _ (l .out) _ (t .loop-test .taken) (l .inv .1) (w .put .ensures) in
     (omega (arith, t .loop-test .taken), written)
 
 same-length : tie.Need-same-length Inv-loop μ-loop
@@ -56,12 +56,14 @@ same-length c =
     let s = c .before .before .before .before in
     let k = c .before .loop .k in
     ap length (c .before .loop .inv .1)
-    ∙ written-length (out s) 12 (entriesNumbers (take k (es s))) (omega (arith, s .pre, c .before .loop .inv .0, first-length (out s) (es s) (whole s) (s .pre) k (c .before .loop .inv .0)))
+    ∙ written-length (out s) fixedLength (entriesNumbers (take k (es s)))
+    (omega (arith, s .pre .1, c .before .loop .inv .0, first-length (out s) (es s) (s .args .used) (omega (arith, s .pre .0, whole s)) (s .pre .1) k (c .before .loop .inv .0)))
 
 returns : tie.Need-returns Inv-loop μ-loop
 returns c =
     let s = c .before .before .before .before in
-    entries-written (out s) (es s) (whole s) (s .pre) (c .before .loop .k) _ (omega (arith, c .loop-test .left, c .before .loop .inv .0)) (c .before .loop .inv .1)
+    let n : c .before .loop .k ≡ s .args .used = omega (arith, c .loop-test .left, c .before .loop .inv .0) in
+    c .before .loop .inv .1 ∙ ap (λ (k : ℕ). written (out s) fixedLength (entriesNumbers (take k (es s)))) n
 
 pub put-entries-spec : {M : Type 1} → statement M
 put-entries-spec =

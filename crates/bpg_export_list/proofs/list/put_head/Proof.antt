@@ -9,7 +9,7 @@ returns : tie.Need-returns
 returns c =
     let w = c .before .before in
     let f = w .before .before .before in
-    w .put .ensures ∙ ap (written (f .before .before .args .out .now) 0) (f .first-numbers .ensures)
+    w .put .ensures ∙ ap (written (f .before .before .args .out .now) 0) (f .head-numbers .ensures)
 
 pub put-head-spec : {M : Type 1} → statement M
 put-head-spec =
