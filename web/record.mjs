@@ -4,18 +4,19 @@
 // one, and so no BigInt is made. `at` is the index of the list's first word.
 
 export const MAX_ENTRIES = 16;
+
+// Where numbers stand that are not the first ones; the entries in use come last, one after another.
+const LOOP_COUNT = 11;
+const ALPHA_HEADER = 14;
+const COLOR_HEADER = 39;
+const DATA = 64;
+const CODED_SIZE = 66;
+const ENTRY_COUNT = 68;
+const ENTRIES = 69;
 const ENTRY_NUMBERS = 3;
-const LOOP_COUNT = 60;
-const ALPHA_HEADER = 63;
-const COLOR_HEADER = 88;
-const DATA = 113;
-const CODED_SIZE = 115;
-const ENTRY_COUNT = 11;
-const ENTRIES = 12;
-const WHOLE_LIST = 117;
 
 /** How many numbers the longest list has. */
-export const MAX_NUMBERS = WHOLE_LIST;
+export const MAX_NUMBERS = ENTRIES + MAX_ENTRIES * ENTRY_NUMBERS;
 
 const WORD = 2 ** 32;
 
@@ -95,30 +96,28 @@ function headerOf(words, at) {
 }
 
 // The names of the fields in the order of the list, taken from the objects above.
-const NOTHING = new Uint32Array(2 * WHOLE_LIST);
+const NOTHING = new Uint32Array(2 * ENTRIES);
 const HEADER_FIELDS = Object.keys(headerOf(NOTHING, 0));
-const FIRST_FIELDS = Object.keys(recordOf(NOTHING, 0)).slice(0, 11);
-const LOOP_FIELDS = ['loopCount', 'framePeriodNum', 'framePeriodDen'];
+const FIRST_FIELDS = Object.keys(recordOf(NOTHING, 0)).slice(0, ALPHA_HEADER);
 const RANGE_FIELDS = ['start', 'length'];
 const ENTRY_FIELDS = ['tag', 'start', 'length'];
 
 /** Puts the list of a record at `at` and answers how many numbers it has. The coded size is not looked at. With too many entries, the list
  *  has their count alone, which the library refuses before it looks for them. */
 export function put(record, words, at) {
-  words.fill(0, at, at + 2 * WHOLE_LIST);
   putFields(record, FIRST_FIELDS, words, at, 'record');
-  putFields(record, LOOP_FIELDS, words, at + 2 * LOOP_COUNT, 'record');
   putFields(record.alphaHeader, HEADER_FIELDS, words, at + 2 * ALPHA_HEADER, 'record.alphaHeader');
   putFields(record.colorHeader, HEADER_FIELDS, words, at + 2 * COLOR_HEADER, 'record.colorHeader');
   putFields(record.data, RANGE_FIELDS, words, at + 2 * DATA, 'record.data');
   const entries = record.entries;
   if (!Array.isArray(entries)) throw new TypeError('record.entries is not an array');
+  words.fill(0, at + 2 * CODED_SIZE, at + 2 * ENTRIES);
   words[at + 2 * ENTRY_COUNT] = entries.length;
   const used = entries.length > MAX_ENTRIES ? 0 : entries.length;
   for (let k = 0; k < used; k++) {
     putFields(entries[k], ENTRY_FIELDS, words, at + 2 * (ENTRIES + k * ENTRY_NUMBERS), `record.entries[${k}]`);
   }
-  return WHOLE_LIST;
+  return ENTRIES + used * ENTRY_NUMBERS;
 }
 
 function putFields(object, names, words, at, what) {
