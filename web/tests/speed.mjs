@@ -13,7 +13,7 @@ const native = (call, file, turns) => Number(execFileSync(`${kept}/speed`, [call
 
 const { exports } = new WebAssembly.Instance(new WebAssembly.Module(readFileSync(path('../bpg.wasm'))), {});
 const bpg = new Bpg({ exports });
-const ROUNDS = 12;
+const ROUNDS = 60;
 const READS = 20000;
 
 /** The least of several turns, in nanoseconds a call. */
