@@ -1,7 +1,7 @@
 // Runs the calls for C and Rust on a file and prints a line: the file; status, offset and list of reading it, for a list of two numbers
 // more than the longest has, and for one that has room for no entry; whether there is an entry, tag and range, for 18 indices; status,
-// offset, count and buffer of canonicalizing it, for a buffer as long as the file, and for one of eight bytes. Lists are filled with 9
-// before, and buffers with a5.
+// offset, count and buffer of canonicalizing it, for a buffer as long as the file, and for one of eight bytes; status, offset and count of
+// its size. Lists are filled with 9 before, and buffers with a5.
 use crate::text;
 
 fn show_read(file: &[u8], numbers: &mut [u64]) {
@@ -49,6 +49,14 @@ fn show_canonical_in(file: &[u8], size: usize) {
     }
 }
 
+fn show_size(file: &[u8]) {
+    let mut count: usize = 9;
+    let mut offset: usize = 9;
+    let status = bpg_export::bpg_canonical_size(file, &mut count, &mut offset);
+    text::show_answer(b" | size ", status, offset);
+    text::show_number(b" ", count as u64);
+}
+
 pub(crate) fn show(file: &[u8]) {
     let mut longer = [9u64; 119];
     let mut shorter = [9u64; 71];
@@ -58,5 +66,6 @@ pub(crate) fn show(file: &[u8]) {
     show_entries(file);
     show_canonical_in(file, file.len());
     show_canonical_in(file, 8);
+    show_size(file);
     text::show(b"\n");
 }

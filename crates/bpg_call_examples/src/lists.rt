@@ -1,5 +1,5 @@
 // Writes a record given as a list of numbers and prints a line: status and count of the call for C and Rust, and the buffer after, which
-// is filled with a5 before.
+// is filled with a5 before; status and count of the call for the size.
 //
 // A case is the length of the list, its numbers in five bytes each, the size of the buffer, and the source.
 use crate::text;
@@ -43,11 +43,18 @@ fn show_written(numbers: &[u64], source: &[u8], out: &mut [u8]) {
     text::show_hex(out);
 }
 
+fn show_size(numbers: &[u64], source: &[u8]) {
+    let mut count: usize = 9;
+    let status = bpg_export::bpg_write_size(numbers, source, &mut count);
+    text::show_answer(b" | size ", status, count);
+}
+
 // The first bytes of the space are the buffer.
 fn show_list(numbers: &[u64], source: &[u8], size: usize) {
     let mut space = [0xa5u8; 256];
     if size <= 256 {
         show_written(numbers, source, &mut space[0..size]);
+        show_size(numbers, source);
         text::show(b"\n");
     }
 }

@@ -24,8 +24,8 @@ use Rattle.bpg_format.specs.Pictures.{pictureHeader, headerWith, needsRange, pi
 use Rattle.bpg_format.proofs.RecordLaws.{content-record}
 use Rattle.bpg_format.proofs.Writing.{record-writable}
 use Rattle.bpg_format.proofs.CanonicalLaws.{canonical-rules}
-use Rattle.bpg_writer.specs.FileParts.{RangeInside}
-use Rattle.bpg_writer.proofs.PartLaws.{range-length}
+use Rattle.bpg_write_plan.specs.FileParts.{RangeInside}
+use Rattle.bpg_write_plan.proofs.SizeLaws.{range-length}
 use Rattle.bpg_canonical_record.specs.Records.{loopSize, canonicalEntry, hasRange, canonicalHeader, canonicalRecord}
 use Rattle.bpg_canonical_record.proofs.RecordLaws.{take-changed, drop-changed}
 

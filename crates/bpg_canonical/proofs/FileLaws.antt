@@ -1,13 +1,15 @@
 -- What canonicalizing answers: the reader's refusals, then what writing the canonical record over the file answers.
 use mathlib.Core.Path.{_≡_, refl, sym, ap, _∙_, subst}
 use mathlib.Core.Logic.{_≢_}
+use mathlib.Core.Bool.{Bool, true, false}
 use mathlib.Core.List.{List}
 use Prim.Native.Nat.{ℕ, _≤_}
 use native.Mathlib.Omega.{arith}
 use lib.Dec.{leb}
 use lib.ListN.{length}
 use borrow.Author.Tests.{le-leb}
-use Rattle.bpg_codec.specs.Outcome.{Outcome, ok, _>>=_, guard}
+use Rattle.bpg_codec.specs.Select.{select}
+use Rattle.bpg_codec.specs.Outcome.{Outcome, ok, error, _>>=_, guard}
 use Rattle.bpg_codec.specs.Lawful.{All, Byte}
 use Rattle.bpg_codec.proofs.Answers.{refused-error, accepted-value}
 use Rattle.bpg_codec.proofs.Outcome.{unbind}
@@ -21,8 +23,8 @@ use Rattle.bpg_format.specs.Syntax.{fileOf}
 use Rattle.bpg_format.specs.Rules.{Rules}
 use Rattle.bpg_format.specs.Read.{readContent, ReadingStatus}
 use Rattle.bpg_format.specs.Records.{recordOf, answerOf, readFile}
-use Rattle.bpg_format.specs.Write.{sizedFile, writeOutcome, writtenAnswer, writtenBuffer, writeFile, writeBuffer, checkRecord}
-use Rattle.bpg_format.specs.Pictures.{canonicalContent, canonicalBytes, canonicalOutcome, canonicalFile, canonicalBuffer}
+use Rattle.bpg_format.specs.Write.{sizedFile, writeOutcome, writtenAnswer, writtenBuffer, writeFile, writeBuffer, writeSize, checkRecord}
+use Rattle.bpg_format.specs.Pictures.{canonicalContent, canonicalBytes, canonicalOutcome, canonicalFile, canonicalBuffer, canonicalSize}
 use Rattle.bpg_format.proofs.ReadingLaws.{read-is}
 use Rattle.bpg_format.proofs.ReadingRefusals.{content-refuses}
 use Rattle.bpg_format.proofs.CanonicalLaws.{canonical-rules}
@@ -51,37 +53,43 @@ module _ (c : Content) (r : Rules c) where
   written-canonical capacity =
       write-checks capacity rec (fileOf c) ∙ rw passes (ap (sizedFile capacity) (canonical-content c r) ∙ rw (le-leb (length (fileOf (canonicalContent c))) maxFile short))
 
--- ---- the call
+-- ---- the calls
 
-module _ (file out : List ℕ) (reading : Reading) (read : reading ≡ readFile file) where
-  -- the answer and the buffer
-  abbrev Answers : Written → List ℕ → Type 0
-  Answers w after = (w ≡ canonicalFile file out) × (after ≡ canonicalBuffer file out)
-
+module _ (file : List ℕ) (reading : Reading) (read : reading ≡ readFile file) where
   is-answer : reading ≡ answerOf (readContent file)
   unfolding readFile
   is-answer = read
 
-  pub refused : reading .status ≢ 0 → Answers (refusedWritten (reading .status) (reading .offset)) out
-  unfolding canonicalFile canonicalBuffer canonicalOutcome
-  refused n =
+  refused-outcome : reading .status ≢ 0 → (capacity : ℕ) → canonicalOutcome capacity file ≡ error (reading .status) (reading .offset)
+  unfolding canonicalOutcome
+  refused-outcome n capacity =
       refused-error answerOf (λ r. r .status) (λ _. refl) (λ _ _. refl) (readContent file) reading is-answer n λ s o w.
-      (ap (λ (x : Reading). refusedWritten (x .status) (x .offset)) (is-answer ∙ ap answerOf w) ∙ rw w, rw w)
+      rw w (sym (ap (λ (x : Reading). error (x .status) (x .offset)) (is-answer ∙ ap answerOf w)))
 
-  module _ (bytes : All Byte file) (z : reading .status ≡ 0) (w : Written) (after : List ℕ)
-      (answer : w ≡ writeFile (canonicalRecord (reading .«record»)) file out) (buffer : after ≡ writeBuffer (canonicalRecord (reading .«record»)) file out) where
-    outcome : writeOutcome (length out) (canonicalRecord (reading .«record»)) file ≡ canonicalOutcome (length out) file
-    unfolding canonicalOutcome
-    outcome =
-        accepted-value answerOf (λ r. r .status) (λ _. refl) (λ _ _. refl) (readContent file) reading is-answer z
-        (λ s o e k. subst ReadingStatus k (content-refuses file s o e))
-        (λ c e.
-        let known = read-is file bytes c e in
-        ap (λ (x : Reading). writeOutcome (length out) (canonicalRecord (x .«record»)) file) (is-answer ∙ ap answerOf e)
-        ∙ ap (writeOutcome (length out) (canonicalRecord (recordOf c))) (known .1)
-        ∙ written-canonical c (known .0) (length out)
-        ∙ rw e)
+  outcome : All Byte file → reading .status ≡ 0 → (capacity : ℕ) → writeOutcome capacity (canonicalRecord (reading .«record»)) file ≡ canonicalOutcome capacity file
+  unfolding canonicalOutcome
+  outcome bytes z capacity =
+      accepted-value answerOf (λ r. r .status) (λ _. refl) (λ _ _. refl) (readContent file) reading is-answer z
+      (λ s o e k. subst ReadingStatus k (content-refuses file s o e))
+      (λ c e.
+      let known = read-is file bytes c e in
+      ap (λ (x : Reading). writeOutcome capacity (canonicalRecord (x .«record»)) file) (is-answer ∙ ap answerOf e)
+      ∙ ap (writeOutcome capacity (canonicalRecord (recordOf c))) (known .1)
+      ∙ written-canonical c (known .0) capacity
+      ∙ rw e)
 
-    pub canonicalized : Answers w after
-    unfolding canonicalFile canonicalBuffer writeFile writeBuffer
-    canonicalized = (answer ∙ ap writtenAnswer outcome, buffer ∙ ap (λ (o : Outcome (List ℕ)). writtenBuffer o out) outcome)
+  -- the answer and the buffer, of sizing or of writing
+  module _ (out : List ℕ) where
+    abbrev Answers : (sizing : Bool) → Written → List ℕ → Type 0
+    Answers t w after = (w ≡ select t (canonicalSize file) (canonicalFile file out)) × (after ≡ select t out (canonicalBuffer file out))
+
+    pub refused : (t : Bool) → reading .status ≢ 0 → Answers t (refusedWritten (reading .status) (reading .offset)) out
+    unfolding select canonicalSize canonicalFile canonicalBuffer
+    refused true n = (ap writtenAnswer (sym (refused-outcome n maxFile)), refl)
+    refused false n = let e = refused-outcome n (length out) in (ap writtenAnswer (sym e), ap (λ (o : Outcome (List ℕ)). writtenBuffer o out) (sym e))
+
+    pub canonicalized : (t : Bool) → All Byte file → reading .status ≡ 0
+        → let r = canonicalRecord (reading .«record») in Answers t (select t (writeSize r file) (writeFile r file out)) (select t out (writeBuffer r file out))
+    unfolding select canonicalSize canonicalFile canonicalBuffer writeSize writeFile writeBuffer
+    canonicalized true bytes z = (ap writtenAnswer (outcome bytes z maxFile), refl)
+    canonicalized false bytes z = let e = outcome bytes z (length out) in (ap writtenAnswer e, ap (λ (o : Outcome (List ℕ)). writtenBuffer o out) e)

@@ -5,3 +5,4 @@ mod file;
 pub use comparison::Comparison;
 pub use comparison::same_picture;
 pub use file::canonicalize;
+pub use file::size;

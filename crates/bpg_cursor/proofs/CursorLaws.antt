@@ -29,10 +29,10 @@ use Rattle.bpg_format.proofs.RecordLaws.{beforeEntries, file-entries, before-le
 use Rattle.bpg_format.proofs.Requirements.{refusals}
 use Rattle.bpg_read_entries.specs.Entries.{entryStart}
 use Rattle.bpg_read_entries.proofs.CheckedEntry.{in-region, past-end, entry-written}
-use Rattle.bpg_reader.specs.declared.parts.EntryAt.{EntryAt}
-use Rattle.bpg_reader.specs.declared.bounds.BlockBounds.{BlockBounds}
-use Rattle.bpg_reader.specs.Entries.{entryAnswer}
-use Rattle.bpg_reader.specs.Bounds.{boundsOf, blockBounds}
+use Rattle.bpg_parts.specs.declared.parts.EntryAt.{EntryAt}
+use Rattle.bpg_parts.specs.declared.bounds.BlockBounds.{BlockBounds}
+use Rattle.bpg_parts.specs.Entries.{entryAnswer}
+use Rattle.bpg_parts.specs.Bounds.{boundsOf, blockBounds}
 use Rattle.bpg_cursor.specs.declared.cursor.Cursor.{Cursor}
 use Rattle.bpg_cursor.specs.declared.step.Step.{Step}
 use Rattle.bpg_cursor.specs.Cursors.{stepOf, stepAt, yielded, advanced, New, after, entryCount, EntriesInOrder}

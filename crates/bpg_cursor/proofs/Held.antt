@@ -43,9 +43,9 @@ use denote.Triple.Spec.{tripleOf}
 use Rattle.bpg_bytes.specs.declared.position.BytePos.{BytePos}
 use Rattle.bpg_bytes.proofs.position.BytePos as P
 use Rattle.bpg_bytes.proofs.position.BytePos.Laws as P′
-use Rattle.bpg_reader.specs.declared.parts.EntryAt.{EntryAt}
-use Rattle.bpg_reader.proofs.parts.EntryAt as E
-use Rattle.bpg_reader.proofs.parts.EntryAt.Laws as E′
+use Rattle.bpg_parts.specs.declared.parts.EntryAt.{EntryAt}
+use Rattle.bpg_parts.proofs.parts.EntryAt as E
+use Rattle.bpg_parts.proofs.parts.EntryAt.Laws as E′
 use Rattle.bpg_cursor.specs.declared.cursor.Cursor.{Cursor}
 use Rattle.bpg_cursor.specs.declared.step.Step.{Step}
 use Rattle.bpg_cursor.specs.Cursors.{yielded, advanced}

@@ -14,9 +14,9 @@ use Rattle.bpg_format.specs.Syntax.{blockBytes, fileOf}
 use Rattle.bpg_format.specs.Rules.{Rules}
 use Rattle.bpg_format.specs.Records.{entriesAt, blockStart, readFile}
 use Rattle.bpg_read_entries.specs.Entries.{EntryHead, entryIn}
-use Rattle.bpg_reader.specs.declared.parts.EntryAt.{EntryAt}
-use Rattle.bpg_reader.specs.Entries.{entryAnswer}
-use Rattle.bpg_reader.specs.Bounds.{blockBounds}
+use Rattle.bpg_parts.specs.declared.parts.EntryAt.{EntryAt}
+use Rattle.bpg_parts.specs.Entries.{entryAnswer}
+use Rattle.bpg_parts.specs.Bounds.{blockBounds}
 use Rattle.bpg_cursor.specs.declared.cursor.Cursor.{Cursor}
 use Rattle.bpg_cursor.specs.declared.step.Step.{Step}
 

@@ -4,8 +4,8 @@ use crate::region::region_to;
 use crate::step::Step;
 use crate::step::step_at;
 use bpg_bytes::BytePos;
-use bpg_reader::EntryAt;
-use bpg_reader::block_bounds;
+use bpg_parts::EntryAt;
+use bpg_parts::block_bounds;
 ghost use mathlib.Core.Path.{_≡_};
 ghost use Rattle.bpg_cursor.specs.Cursors.{stepAt, firstStep, New, yielded, advanced};
 

@@ -1,7 +1,7 @@
 // One step of a cursor: the work, over a plain slice and an offset.
 use bpg_bytes::BytePos;
+use bpg_parts::EntryAt;
 use bpg_read_entries::entry;
-use bpg_reader::EntryAt;
 ghost use mathlib.Core.Path.{_≡_};
 ghost use Rattle.bpg_cursor.specs.Cursors.{stepAt};
 

@@ -3,7 +3,7 @@ use crate::hex;
 use crate::text;
 use bpg_bytes::BytePos;
 use bpg_format::Entry;
-use bpg_reader::EntryAt;
+use bpg_parts::EntryAt;
 
 fn show_entry(entry: Entry) {
     text::show_number(b" ", entry.tag as u64);
@@ -36,7 +36,7 @@ pub(crate) fn show(file: &[u8]) {
     let first = bpg_cursor::first(file);
     let answer = first.answer;
     show_answer(answer);
-    let bounds = bpg_reader::block_bounds(file);
+    let bounds = bpg_parts::block_bounds(file);
     show_rest(bpg_cursor::region_to(file, bounds.end), first.next);
     text::show(b"\n");
 }

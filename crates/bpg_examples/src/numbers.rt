@@ -59,8 +59,9 @@ fn write_ue7(space: &mut [u8], size: usize, at: usize, v: u64) {
         return;
     }
     let low = (v % 0x1_0000_0000) as u32;
-    let end = ue7::write(&mut space[0..size], BytePos(at), low);
-    show_pair(b" size ", ue7::size(low as u64) as u64, b" next ", end.0);
+    let end = bpg_write_ue7::ue7::write(&mut space[0..size], BytePos(at), low);
+    let count = bpg_write_ue7::ue7::size(low as u64);
+    show_pair(b" size ", count as u64, b" next ", end.0);
     text::show(b" ");
     hex::show_bytes(&space[0..size]);
 }

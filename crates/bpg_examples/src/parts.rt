@@ -7,9 +7,9 @@ pub(crate) fn show(file: &[u8], count: usize) {
     for k in 0..17 {
         if k <= count {
             text::show(b" ");
-            hex::show(bpg_reader::payload(file, k));
+            hex::show(bpg_parts::payload(file, k));
         }
     }
     text::show(b" data ");
-    hex::show(bpg_reader::data(file));
+    hex::show(bpg_parts::data(file));
 }

@@ -1,13 +1,16 @@
 // The library for C and Rust: numbers and slices alone. include/bpg.h declares these functions for C.
 mod batch;
 mod frames;
+mod sizes;
 mod thumbnails;
 
-use bpg_reader::EntryAt;
+use bpg_parts::EntryAt;
 pub use frames::bpg_escape;
 pub use frames::bpg_frame_count;
 pub use frames::bpg_frames;
 pub use frames::bpg_unescape;
+pub use sizes::bpg_canonical_size;
+pub use sizes::bpg_write_size;
 pub use thumbnails::bpg_check_thumbnails;
 ghost use mathlib.Core.Path.{_≡_};
 ghost use lib.Dec.{ltb};
@@ -44,7 +47,7 @@ pub extern "C" fn bpg_entry(
     ensures { λ _. ⌜ now (start .exit) ≡ entryOf (now (file .entry)) k .payload .start ⌝ }
     ensures { λ _. ⌜ now (length .exit) ≡ entryOf (now (file .entry)) k .payload .length ⌝ }
 {
-    match bpg_reader::entry_at(file, k) {
+    match bpg_parts::entry_at(file, k) {
         EntryAt::Absent => {
             *tag = 0;
             *start = 0;

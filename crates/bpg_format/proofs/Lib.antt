@@ -17,5 +17,6 @@ pub mod Writing
 pub mod Canonical
 pub mod Requirements
 pub mod WritingRefusals
+pub mod Sizes
 pub mod Examples
 pub mod WrongAnswers

@@ -1,4 +1,4 @@
--- Writing refuses at offset 0, with no other number than document 01's for writing.
+-- Writing refuses at offset 0, with no other number than document 01's for writing, and not with 20 before the buffer is looked at.
 use mathlib.Core.Path.{_≡_, refl}
 use mathlib.Core.Bool.{Bool, true, false, not, _&&_, _||_}
 use mathlib.Core.List.{List, [], _∷_}
@@ -7,6 +7,7 @@ use lib.Dec.{leb}
 use lib.ListN.{length}
 use Rattle.bpg_codec.specs.Select.{select}
 use Rattle.bpg_codec.specs.Outcome.{Outcome, ok, error, _>>=_, guard}
+use Rattle.bpg_codec.proofs.Lists.{member-later}
 use Rattle.bpg_codec.proofs.Refusals.{Refuses, refuses-ok, refuses-error, refuses-bind, refuses-guard, refuses-select}
 use Rattle.bpg_ue7.specs.Ue7.{notZero}
 use Rattle.bpg_format.specs.declared.record.Header.{Header}
@@ -19,11 +20,11 @@ use Rattle.bpg_format.specs.Tests.{colorSpaceAllowed, noForbiddenBit, he
 use Rattle.bpg_format.specs.Read.{readAnimation}
 use Rattle.bpg_format.specs.Records.{contentOf}
 use Rattle.bpg_format.specs.Write.{rangesInSource, unusedZero, consistent, sameAnimation, atZero, checkAnimation, checkEntries, fieldsCoded, checkHeader}
-use Rattle.bpg_format.specs.Write.{checkContent, checkRecord, sizedFile, writeOutcome, WritingStatus}
+use Rattle.bpg_format.specs.Write.{checkContent, checkRecord, sizedFile, writeOutcome, sizingStatuses, SizingStatus, WritingStatus}
 use Rattle.bpg_format.proofs.ReadingRefusals.{loop-refuses}
 
 abbrev pub AtZero : (status offset : ℕ) → Type 0
-AtZero s o = WritingStatus s × (o ≡ 0)
+AtZero s o = SizingStatus s × (o ≡ 0)
 
 abbrev pub R : {A : Type 0} → Outcome A → Type 0
 R m = Refuses AtZero m
@@ -35,14 +36,14 @@ pub last-rule : (t : Bool) (s : ℕ) → AtZero s 0 → R (guard t s 0)
 last-rule true s h = refuses-ok AtZero tt
 last-rule false s h = refuses-error AtZero s 0 h
 
-at-zero-refuses : {A : Type 0} (m : Outcome A) → Refuses (λ s o. WritingStatus s) m → R (atZero m)
+at-zero-refuses : {A : Type 0} (m : Outcome A) → Refuses (λ s o. SizingStatus s) m → R (atZero m)
 at-zero-refuses (ok a) h = refuses-ok AtZero a
 at-zero-refuses (error s o) h = refuses-error AtZero s 0 (h s o refl, refl)
 
 pub loop-check : (p : AnimationControl) (l : List ℕ) → R (checkAnimation p l)
 unfolding checkAnimation
 loop-check p l =
-    let own = loop-refuses (λ s o. WritingStatus s) (λ _. tt) (λ _. tt) (λ _. tt) (λ _. tt) in
+    let own = loop-refuses (λ s o. SizingStatus s) (λ _. tt) (λ _. tt) (λ _. tt) (λ _. tt) in
     refuses-bind AtZero (atZero (readAnimation 0 l)) _ (at-zero-refuses (readAnimation 0 l) (own 0 l)) λ x.
     last-rule (sameAnimation p x) 19 (tt, refl)
 
@@ -82,10 +83,17 @@ record-check r source =
     rule (leb (r .«entry_count») maxEntries) 11 _ (tt, refl)
     (rule (rangesInSource source r) 18 _ (tt, refl) (rule (unusedZero r && consistent c) 19 _ (tt, refl) (content-check c)))
 
-pub write-refuses : (capacity : ℕ) (r : Record) (source : List ℕ) → R (writeOutcome capacity r source)
+-- all that is refused before the buffer is looked at
+pub size-check : (r : Record) (source : List ℕ) → R (checkRecord r source >>= λ _. guard (leb (length (fileOf (contentOf r source))) maxFile) 1 0)
+size-check r source = refuses-bind AtZero (checkRecord r source) _ (record-check r source) λ _. last-rule (leb (length (fileOf (contentOf r source))) maxFile) 1 (tt, refl)
+
+abbrev pub Writing : (status offset : ℕ) → Type 0
+Writing s o = WritingStatus s × (o ≡ 0)
+
+pub write-refuses : (capacity : ℕ) (r : Record) (source : List ℕ) → Refuses Writing (writeOutcome capacity r source)
 unfolding writeOutcome sizedFile
 write-refuses capacity r source =
     let c = contentOf r source in
-    refuses-bind AtZero (checkRecord r source) _ (record-check r source) λ _.
-    rule (leb (length (fileOf c)) maxFile) 1 _ (tt, refl)
-    (rule (leb (length (fileOf c)) capacity) 20 _ (tt, refl) (refuses-ok AtZero (fileOf c)))
+    refuses-bind Writing (checkRecord r source) _ (λ s o e. let h = record-check r source s o e in (member-later s 20 sizingStatuses (h .0), h .1)) λ _.
+    refuses-guard Writing (leb (length (fileOf c)) maxFile) 1 0 _ (tt, refl)
+    (refuses-guard Writing (leb (length (fileOf c)) capacity) 20 0 _ (tt, refl) (refuses-ok Writing (fileOf c)))

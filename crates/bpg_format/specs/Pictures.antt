@@ -10,6 +10,7 @@ use Rattle.bpg_codec.specs.Lists.{member}
 use Rattle.bpg_codec.specs.Outcome.{Outcome, ok, _>>=_, guard}
 use Rattle.bpg_codec.specs.Bits.{allZero}
 use Rattle.bpg_ue7.specs.Ue7.{ue7Bytes}
+use Rattle.bpg_format.specs.Limits.{maxFile}
 use Rattle.bpg_format.specs.declared.record.Header.{Header}
 use Rattle.bpg_format.specs.declared.answer.Written.{Written}
 use Rattle.bpg_format.specs.Content.{isEmpty, Extension, AnimationControl, Content}
@@ -217,6 +218,10 @@ canonicalFile f out = writtenAnswer (canonicalOutcome (length out) f)
 
 unfoldable pub canonicalBuffer : (f out : List ℕ) → List ℕ
 canonicalBuffer f out = writtenBuffer (canonicalOutcome (length out) f) out
+
+-- the answer before there is a buffer: the canonical form is never longer than the file, and so has at most `maxFile` bytes
+unfoldable pub canonicalSize : (f : List ℕ) → Written
+canonicalSize f = writtenAnswer (canonicalOutcome maxFile f)
 
 -- the refusal numbers of canonicalizing: the reader's, and 20
 abbrev pub canonicalizingStatuses : List ℕ

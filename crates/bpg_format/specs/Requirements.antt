@@ -17,8 +17,8 @@ use Rattle.bpg_format.specs.Rules.{Rules, Accepted}
 use Rattle.bpg_format.specs.Read.{ReadingStatus}
 use Rattle.bpg_format.specs.Records.{contentOf, answerOf, readFile}
 use Rattle.bpg_format.specs.Parts.{entryOf, payloadOf, dataOf, rangesOf, rangeEnd, InOrder, joined, Inside}
-use Rattle.bpg_format.specs.Write.{writeFile, writeBuffer, WritingStatus, Typed, Writable}
-use Rattle.bpg_format.specs.Pictures.{canonicalBytes, SamePicture, canonicalFile, canonicalBuffer, CanonicalizingStatus}
+use Rattle.bpg_format.specs.Write.{writeFile, writeBuffer, writeSize, WritingStatus, Typed, Writable}
+use Rattle.bpg_format.specs.Pictures.{canonicalBytes, SamePicture, canonicalFile, canonicalBuffer, canonicalSize, CanonicalizingStatus}
 
 -- 1. "Every call takes every input. A bad file or record is refused with the number and place in document 01, any record returned is then
 -- all zero, and lent room keeps its old contents; an index past the last entry gives an empty part."
@@ -133,3 +133,17 @@ abbrev pub OneFormPerPicture : Type 0
 OneFormPerPicture =
     (f g out1 out2 : List ℕ) (a : Accepted f) (b : Accepted g) → length (canonicalBytes (a .0)) ≤ length out1 → length (canonicalBytes (b .0)) ≤ length out2
     → Canonicalized f g out1 out2 (canonicalFile f out1) (canonicalFile g out2) (canonicalBuffer f out1) (canonicalBuffer g out2)
+
+-- Beside the three: the size before the buffer. `size` is what a call answers to every buffer that is large enough, `answer` what it answers to
+-- a given one.
+pub record SizeBefore (size : Written) (answer : (out : List ℕ) → Written) : Type 0 where
+  -- it is the call's answer, whenever that is not 20
+  pub same : (out : List ℕ) → answer out .status ≢ 20 → size ≡ answer out
+  pub never-small : size .status ≢ 20
+  -- and a buffer of at least that count is large enough
+  pub enough : (out : List ℕ) → size .status ≡ 0 → size .count ≤ length out → answer out ≡ size
+
+pub record Sizes : Type 0 where
+  pub writing : (r : Record) (source : List ℕ) → SizeBefore (writeSize r source) (writeFile r source)
+  -- a file is a list of bytes
+  pub canonicalizing : (f : List ℕ) → All Byte f → SizeBefore (canonicalSize f) (canonicalFile f)

@@ -174,9 +174,20 @@ writeFile r source out = writtenAnswer (writeOutcome (length out) r source)
 unfoldable pub writeBuffer : Record → (source out : List ℕ) → List ℕ
 writeBuffer r source out = writtenBuffer (writeOutcome (length out) r source) out
 
--- the refusal numbers of writing: no other is given
+-- the answer before there is a buffer: what writing answers to one that holds the file. A file that is written has at most `maxFile` bytes, and
+-- a longer one is refused with 1 before its buffer is looked at, so 20 cannot come
+unfoldable pub writeSize : Record → (source : List ℕ) → Written
+writeSize r source = writtenAnswer (writeOutcome maxFile r source)
+
+-- the refusal numbers before the buffer is looked at, and those of writing: no other is given
+abbrev pub sizingStatuses : List ℕ
+sizingStatuses = 1 ∷ 2 ∷ 4 ∷ 5 ∷ 6 ∷ 7 ∷ 8 ∷ 9 ∷ 11 ∷ 12 ∷ 13 ∷ 14 ∷ 15 ∷ 16 ∷ 17 ∷ 18 ∷ 19 ∷ 26 ∷ []
+
+abbrev pub SizingStatus : ℕ → Type 0
+SizingStatus s = T (member s sizingStatuses)
+
 abbrev pub writingStatuses : List ℕ
-writingStatuses = 1 ∷ 2 ∷ 4 ∷ 5 ∷ 6 ∷ 7 ∷ 8 ∷ 9 ∷ 11 ∷ 12 ∷ 13 ∷ 14 ∷ 15 ∷ 16 ∷ 17 ∷ 18 ∷ 19 ∷ 20 ∷ 26 ∷ []
+writingStatuses = 20 ∷ sizingStatuses
 
 abbrev pub WritingStatus : ℕ → Type 0
 WritingStatus s = T (member s writingStatuses)

@@ -15,12 +15,12 @@ use Rattle.bpg_format.specs.Parts.{recordIn, dataOf}
 use Rattle.bpg_nal_units.specs.Units.{Nal}
 use Rattle.bpg_nal_units.proofs.Cases.{by-equal}
 use Rattle.bpg_nal_units.proofs.Whole.{units-bytes}
-use Rattle.bpg_frames.specs.declared.wait.Waiting.{Waiting}
-use Rattle.bpg_frames.specs.Units.{isPrefixSei, startsFrame}
-use Rattle.bpg_frames.specs.Frames.{nothing, lasting, framesFrom, enough}
+use Rattle.bpg_frame_units.specs.declared.wait.Waiting.{Waiting}
+use Rattle.bpg_frame_units.specs.Units.{isPrefixSei, startsFrame}
+use Rattle.bpg_frame_units.specs.Frames.{nothing, lasting, framesFrom, enough}
 use Rattle.bpg_frames.specs.Calls.{dataAt, alphaIn, unitsIn, framesOf, frameCount}
 use Rattle.bpg_frames.specs.Requirements.{headerIn, frameStarts, lastStarts, SetsDuration, SetsNone}
-use Rattle.bpg_frames.proofs.SaidLaws.{said-none, said-small}
+use Rattle.bpg_frame_units.proofs.SaidLaws.{said-none, said-small}
 use Rattle.bpg_frames.proofs.Growth.{Sets, nothing-lasts, grown, grows}
 use Rattle.bpg_frames.proofs.NextFrame.{walk, keeps, sets, frame-at}
 use Rattle.bpg_frames.proofs.CallLaws.{frames-parts}

@@ -20,12 +20,13 @@ use Rattle.bpg_format.specs.Parts.{recordIn, dataOf, rangeEnd}
 use Rattle.bpg_format.specs.Write.{writtenBuffer}
 use Rattle.bpg_format.proofs.Requirements.{reading, ranges}
 use Rattle.bpg_nal_units.proofs.Cases.{by-equal}
-use Rattle.bpg_frames.specs.declared.count.Frames.{Frames}
+use Rattle.bpg_frame_units.specs.declared.count.Frames.{Frames}
 use Rattle.bpg_frames.specs.declared.calls.Survey.{Survey}
-use Rattle.bpg_frames.specs.Frames.{nothing, framesFrom, enough}
-use Rattle.bpg_frames.specs.Calls.{dataAt, alphaIn, unitsIn, framesOf, framesAnswer, frameCount, framesCall, framesList}
-use Rattle.bpg_frames.specs.Answers.{refusedFrames, framesAt, durationsAt, Storable, Surveyed}
-use Rattle.bpg_frames.proofs.Refusals.{frames-refuse}
+use Rattle.bpg_frame_units.specs.Frames.{nothing, framesFrom, enough}
+use Rattle.bpg_frames.specs.Calls.{dataAt, alphaIn, unitsIn, framesOf, frameCount, framesCall, framesList}
+use Rattle.bpg_frame_units.specs.Answers.{framesAnswer, refusedFrames, framesAt}
+use Rattle.bpg_frames.specs.Surveys.{durationsAt, Storable, Surveyed}
+use Rattle.bpg_frame_units.proofs.Refusals.{frames-refuse}
 
 -- ---- an accepted file: its data goes to its end
 
@@ -108,12 +109,6 @@ module _ (f : List ℕ) (r : Reading) (e : r ≡ readFile f) where
   module _ (bytes : All Byte f) (z : r .status ≡ 0) where
     read-zero : readFile f .status ≡ 0
     read-zero = rw e at z
-
-    pub survey-start : r .«record» .«data» .start ≤ length f
-    survey-start = rw e (data-start f bytes read-zero)
-
-    pub survey-small : length f < 2 ^ 32
-    survey-small = data-small f bytes read-zero
 
     module _ (alpha : Bool) (a : alpha ≡ (r .«record» .«alpha1_flag» || r .«record» .«alpha2_flag»)) (c : Frames)
         (d : c ≡ framesAnswer (framesAt f (r .«record» .«data» .start) alpha)) where

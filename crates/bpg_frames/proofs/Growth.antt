@@ -10,13 +10,13 @@ use Rattle.bpg_codec.proofs.Outcome.{ok-injective, error-not-ok}
 use Rattle.bpg_codec.proofs.Select.{select-true, select-false}
 use Rattle.bpg_nal_units.specs.Units.{Nal}
 use Rattle.bpg_nal_units.proofs.Cases.{by-test, by-equal}
-use Rattle.bpg_frames.specs.declared.wait.Waiting.{Waiting}
-use Rattle.bpg_frames.specs.Units.{Said, kindSays}
-use Rattle.bpg_frames.specs.Frames.{nothing, setBy, lasting, framesFrom}
+use Rattle.bpg_frame_units.specs.declared.wait.Waiting.{Waiting}
+use Rattle.bpg_frame_units.specs.Units.{Said, kindSays}
+use Rattle.bpg_frame_units.specs.Frames.{nothing, setBy, lasting, framesFrom}
 use Rattle.bpg_frames.specs.Requirements.{headerIn, frameStarts}
-use Rattle.bpg_frames.proofs.SaidLaws.{said-starts}
-use Rattle.bpg_frames.proofs.UnitLaws.{unit-passed, judged-passed}
-use Rattle.bpg_frames.proofs.FrameLaws.{frames-end, frames-open, frames-judged, frames-starts, frames-goes}
+use Rattle.bpg_frame_units.proofs.SaidLaws.{said-starts}
+use Rattle.bpg_frame_units.proofs.UnitLaws.{unit-passed, judged-passed}
+use Rattle.bpg_frame_units.proofs.FrameLaws.{frames-end, frames-open, frames-judged, frames-starts, frames-goes}
 
 -- the durations after ds: as many as frame starts, and with what holds of 1 and of each duration that is set
 module _ (alpha : Bool) (P : ℕ → Type 0) (one : P 1) where

@@ -16,13 +16,13 @@ use Rattle.bpg_codec.proofs.Select.{select-true, select-false}
 use Rattle.bpg_nal_units.specs.declared.nal_header.NalHeader.{NalHeader}
 use Rattle.bpg_nal_units.specs.Units.{Nal}
 use Rattle.bpg_nal_units.proofs.Cases.{by-test, by-equal, one-answer, and-false}
-use Rattle.bpg_frames.specs.declared.wait.Waiting.{Waiting}
-use Rattle.bpg_frames.specs.Units.{Said, isSlice, isPrefixSei, startsFrame, kindSays}
-use Rattle.bpg_frames.specs.Frames.{settles, judged, nothing, lasting, framesFrom}
+use Rattle.bpg_frame_units.specs.declared.wait.Waiting.{Waiting}
+use Rattle.bpg_frame_units.specs.Units.{Said, isSlice, isPrefixSei, startsFrame, kindSays}
+use Rattle.bpg_frame_units.specs.Frames.{settles, judged, nothing, lasting, framesFrom}
 use Rattle.bpg_frames.specs.Requirements.{headerIn, frameStarts, lastStarts, SetsDuration, SetsNone}
-use Rattle.bpg_frames.proofs.UnitLaws.{unit-passed, judged-passed, judged-settles}
-use Rattle.bpg_frames.proofs.SaidLaws.{said-starts, said-none, sei-said}
-use Rattle.bpg_frames.proofs.FrameLaws.{frames-judged, frames-starts, frames-goes}
+use Rattle.bpg_frame_units.proofs.UnitLaws.{unit-passed, judged-passed, judged-settles}
+use Rattle.bpg_frame_units.proofs.SaidLaws.{said-starts, said-none, sei-said}
+use Rattle.bpg_frame_units.proofs.FrameLaws.{frames-judged, frames-starts, frames-goes}
 use Rattle.bpg_frames.proofs.Growth.{grows}
 
 -- ---- units

@@ -9,13 +9,13 @@ use Rattle.bpg_codec.specs.Outcome.{Outcome, ok, error}
 use Rattle.bpg_codec.proofs.Outcome.{error-not-ok}
 use Rattle.bpg_nal_units.specs.Units.{Nal}
 use Rattle.bpg_nal_units.proofs.Cases.{by-test, by-equal}
-use Rattle.bpg_frames.specs.declared.wait.Waiting.{Waiting}
-use Rattle.bpg_frames.specs.Units.{Said}
-use Rattle.bpg_frames.specs.Frames.{judged, nothing, setBy, lasting, framesFrom}
+use Rattle.bpg_frame_units.specs.declared.wait.Waiting.{Waiting}
+use Rattle.bpg_frame_units.specs.Units.{Said}
+use Rattle.bpg_frame_units.specs.Frames.{judged, nothing, setBy, lasting, framesFrom}
 use Rattle.bpg_frames.specs.Requirements.{Passes, FirstRefused}
-use Rattle.bpg_frames.proofs.Refusals.{unit-refuses}
-use Rattle.bpg_frames.proofs.UnitLaws.{judged-passed, judged-error}
-use Rattle.bpg_frames.proofs.FrameLaws.{frames-end, frames-open, frames-stop, frames-starts, frames-goes}
+use Rattle.bpg_frame_units.proofs.Refusals.{unit-refuses}
+use Rattle.bpg_frame_units.proofs.UnitLaws.{judged-passed, judged-error}
+use Rattle.bpg_frame_units.proofs.FrameLaws.{frames-end, frames-open, frames-stop, frames-starts, frames-goes}
 
 error-status : {A : Type 0} {s t p q : ℕ} → _≡_ {A = Outcome A} (error s p) (error t q) → s ≡ t
 error-status e = cc

@@ -16,14 +16,14 @@ use Rattle.bpg_format.specs.Records.{readFile}
 use Rattle.bpg_format.specs.Parts.{recordIn, dataOf}
 use Rattle.bpg_format.specs.Write.{writtenBuffer}
 use Rattle.bpg_nal_units.proofs.Whole.{whole}
-use Rattle.bpg_frames.specs.declared.count.Frames.{Frames}
-use Rattle.bpg_frames.specs.Frames.{nothing, framesFrom, enough}
-use Rattle.bpg_frames.specs.Calls.{dataAt, alphaIn, unitsIn, framesOf, framesAnswer, frameCount, listOutcome, framesCall, framesList}
-use Rattle.bpg_frames.specs.Answers.{refusedFrames}
+use Rattle.bpg_frame_units.specs.declared.count.Frames.{Frames}
+use Rattle.bpg_frame_units.specs.Frames.{nothing, framesFrom, enough}
+use Rattle.bpg_frames.specs.Calls.{dataAt, alphaIn, unitsIn, framesOf, frameCount, listOutcome, framesCall, framesList}
+use Rattle.bpg_frame_units.specs.Answers.{framesAnswer, refusedFrames}
 use Rattle.bpg_frames.specs.Requirements.{frameStarts, Units, Count, durations, Durations, FirstRefused, Refusals}
 use Rattle.bpg_frames.proofs.AllFrames.{count-is, starts-is, all-in-range, all-ones, next-lasts, alone-lasts, enough-is}
 use Rattle.bpg_frames.proofs.RefusedAt.{refused-at}
-use Rattle.bpg_frames.proofs.Refusals.{frames-refuse}
+use Rattle.bpg_frame_units.proofs.Refusals.{frames-refuse}
 use Rattle.bpg_frames.proofs.CallLaws.{data-is, not-zero, answer-zero, frames-parts}
 
 pub units : Units

@@ -18,16 +18,17 @@ use Rattle.bpg_nal_units.specs.Headers.{headerOf}
 use Rattle.bpg_nal_units.specs.Units.{Nal, units, bytesAt, cutAt}
 use Rattle.bpg_nal_units.proofs.Cases.{by-test, by-equal}
 use Rattle.bpg_nal_units.proofs.UnitLaws.{unitAt}
-use Rattle.bpg_frames.specs.declared.kind.Verdict.{Verdict}
-use Rattle.bpg_frames.specs.declared.wait.Waiting.{Waiting}
-use Rattle.bpg_frames.specs.Units.{Said, isSlice, startsFrame, kindSays}
-use Rattle.bpg_frames.specs.Frames.{judged, nothing, lasting, framesFrom}
-use Rattle.bpg_frames.specs.Answers.{verdictOf, waitBy, framesAt, durationsAt, Storable}
-use Rattle.bpg_frames.proofs.UnitLaws.{unit-passed, judged-passed}
-use Rattle.bpg_frames.proofs.SaidLaws.{said-starts, said-long}
+use Rattle.bpg_frame_units.specs.declared.kind.Verdict.{Verdict}
+use Rattle.bpg_frame_units.specs.declared.wait.Waiting.{Waiting}
+use Rattle.bpg_frame_units.specs.Units.{Said, isSlice, startsFrame, kindSays}
+use Rattle.bpg_frame_units.specs.Frames.{judged, nothing, lasting, framesFrom}
+use Rattle.bpg_frame_units.specs.Answers.{Headed, verdictOf, waitBy, framesAt}
+use Rattle.bpg_frames.specs.Surveys.{durationsAt, Storable}
+use Rattle.bpg_frame_units.proofs.UnitLaws.{unit-passed, judged-passed}
+use Rattle.bpg_frame_units.proofs.SaidLaws.{said-starts, said-long}
 use Rattle.bpg_frames.proofs.Growth.{grows}
-use Rattle.bpg_frames.proofs.FrameLaws.{timedBy, timed-length, frames-end, frames-open, frames-judged, frames-on}
-use Rattle.bpg_frames.proofs.FrameLaws.{turn-end, turn-part, turn-room, turn-first, all-last, all-more}
+use Rattle.bpg_frame_units.proofs.FrameLaws.{timedBy, timed-length, frames-end, frames-open, frames-judged, frames-on}
+use Rattle.bpg_frame_units.proofs.FrameLaws.{turn-end, turn-part, turn-room, turn-first, all-last, all-more}
 
 -- ---- where a unit ends does not matter for whether a frame starts
 
@@ -114,8 +115,8 @@ module _ {f : List ℕ} {p : ℕ} {alpha : Bool} {count : ℕ} {list₀ list : L
     part-is : part ≡ unit
     part-is = turn-part f start (s .inside) cut e
 
-    pub store-header : (2 ≤ length part) × (getD part 1 0 ≡ 0 → ⊥)
-    store-header = rw part-is (passed-here .0, passed-here .1)
+    pub store-header : Headed part
+    store-header = rw part-is (record { long = passed-here .0; temporal = passed-here .1 })
 
   module _ (b : Bool) (j : b ≡ startsFrame (take (length f - start) (drop start f))) where
     starts-is : b ≡ v .starts

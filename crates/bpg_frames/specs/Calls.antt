@@ -4,13 +4,14 @@ use mathlib.Core.List.{List, []}
 use Prim.Native.Nat.{ℕ}
 use lib.Dec.{eqb, leb}
 use lib.ListN.{length}
-use Rattle.bpg_codec.specs.Outcome.{Outcome, ok, error, _>>=_, guard}
+use Rattle.bpg_codec.specs.Outcome.{Outcome, ok, _>>=_, guard}
 use Rattle.bpg_format.specs.Records.{readFile}
 use Rattle.bpg_format.specs.Parts.{recordIn, dataOf}
 use Rattle.bpg_format.specs.Write.{writtenBuffer}
 use Rattle.bpg_nal_units.specs.Units.{Nal, units}
-use Rattle.bpg_frames.specs.declared.count.Frames.{Frames}
-use Rattle.bpg_frames.specs.Frames.{nothing, framesFrom, enough}
+use Rattle.bpg_frame_units.specs.declared.count.Frames.{Frames}
+use Rattle.bpg_frame_units.specs.Frames.{nothing, framesFrom, enough}
+use Rattle.bpg_frame_units.specs.Answers.{framesAnswer}
 
 module _ (f : List ℕ) where
   -- the first data byte
@@ -30,10 +31,6 @@ module _ (f : List ℕ) where
       framesFrom alphaIn unitsIn nothing [] >>= λ ds.
       guard (enough (recordIn f .«animation_flag») (length ds)) 25 dataAt >>= λ _.
       ok ds
-
-abbrev pub framesAnswer : Outcome (List ℕ) → Frames
-framesAnswer (ok ds) = record { status = 0; offset = 0; count = length ds }
-framesAnswer (error s o) = record { status = s; offset = o; count = 0 }
 
 unfoldable pub frameCount : List ℕ → Frames
 frameCount f = framesAnswer (framesOf f)

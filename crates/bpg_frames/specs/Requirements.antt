@@ -1,5 +1,5 @@
 -- Request 1/13, in its own words and as types over the definitions that the calls' contracts cite. `proofs/Requirements` proves them.
--- Undoing and redoing are in `bpg_nal_escape/specs/RoundTrips`.
+-- Undoing and redoing are in `bpg_nal_emulation/specs/RoundTrips`.
 use mathlib.Core.Path.{_≡_}
 use mathlib.Core.Bool.{Bool, true, false}
 use mathlib.Core.List.{List, [], _∷_, _++_}
@@ -15,11 +15,11 @@ use Rattle.bpg_nal_units.specs.declared.nal_header.NalHeader.{NalHeader}
 use Rattle.bpg_nal_units.specs.Headers.{headerOf}
 use Rattle.bpg_nal_units.specs.Units.{Nal}
 use Rattle.bpg_nal_units.specs.Whole.{nth, Whole}
-use Rattle.bpg_nal_escape.specs.Emulation.{unescape}
+use Rattle.bpg_nal_emulation.specs.Emulation.{unescape}
 use Rattle.bpg_sei.specs.Messages.{durationsIn}
-use Rattle.bpg_frames.specs.Units.{Said, isPrefixSei, startsFrame, unitSays}
+use Rattle.bpg_frame_units.specs.Units.{Said, isPrefixSei, startsFrame, unitSays}
 use Rattle.bpg_frames.specs.Calls.{dataAt, alphaIn, unitsIn, frameCount, framesCall, framesList}
-use Rattle.bpg_frames.specs.Answers.{refusedFrames}
+use Rattle.bpg_frame_units.specs.Answers.{refusedFrames}
 
 abbrev pub headerIn : Nal → NalHeader
 headerIn u = headerOf (getD (u .bytes) 0 0) (getD (u .bytes) 1 0)

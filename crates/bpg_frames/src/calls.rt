@@ -1,15 +1,15 @@
 // The two calls.
-use crate::count::Frames;
-use crate::count::count_frames;
-use crate::count::refused;
 use crate::store::store_durations;
 use bpg_bytes::BytePos;
 use bpg_format::has_alpha;
+use bpg_frame_units::count::Frames;
+use bpg_frame_units::count::count_frames;
+use bpg_frame_units::count::refused;
 ghost use mathlib.Core.Bool.{false};
 ghost use mathlib.Core.Path.{_≡_};
-ghost use Rattle.bpg_frames.specs.Frames.{enough};
+ghost use Rattle.bpg_frame_units.specs.Frames.{enough};
 ghost use Rattle.bpg_frames.specs.Calls.{frameCount, framesCall, framesList};
-ghost use Rattle.bpg_frames.specs.Answers.{Surveyed};
+ghost use Rattle.bpg_frames.specs.Surveys.{Surveyed};
 
 // The answer for a file before anything is stored; and on success where its data starts, and whether there is alpha.
 pub struct Survey {

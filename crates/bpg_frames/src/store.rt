@@ -1,10 +1,10 @@
 // The second pass over data that was judged: the durations are stored.
-use crate::kind::starts_frame;
-use crate::kind::verdict_on;
-use crate::wait::nothing_waits;
-use crate::wait::shown;
-use crate::wait::wait_after;
 use bpg_bytes::BytePos;
+use bpg_frame_units::kind::starts_frame;
+use bpg_frame_units::kind::verdict_on;
+use bpg_frame_units::wait::nothing_waits;
+use bpg_frame_units::wait::shown;
+use bpg_frame_units::wait::wait_after;
 use bpg_nal_units::cut_at;
 ghost use mathlib.Core.Path.{_≡_};
 ghost use mathlib.Core.Bool.{true};
@@ -12,8 +12,8 @@ ghost use mathlib.Core.List.{_++_};
 ghost use Prim.Native.Nat.{_+_, _<_};
 ghost use lib.ListN.{length, drop, set};
 ghost use Rattle.bpg_codec.specs.Select.{select};
-ghost use Rattle.bpg_frames.specs.Frames.{lasting};
-ghost use Rattle.bpg_frames.specs.Answers.{Storable, durationsAt};
+ghost use Rattle.bpg_frame_units.specs.Frames.{lasting};
+ghost use Rattle.bpg_frames.specs.Surveys.{Storable, durationsAt};
 
 // Stores the duration of a frame that starts, and answers where the next one goes.
 fn put(durations: &mut [u16], at: usize, starts: bool, pending: u16) -> usize

@@ -6,10 +6,11 @@ use Prim.Native.Nat.{ℕ}
 use lib.ListN.{length}
 use Rattle.bpg_codec.specs.Outcome.{Outcome, ok, _>>=_}
 use Rattle.bpg_codec.proofs.Outcome.{ok-injective}
+use Rattle.bpg_format.specs.Limits.{maxFile}
 use Rattle.bpg_format.specs.declared.record.Record.{Record}
-use Rattle.bpg_format.specs.Write.{writeOutcome, writtenAnswer, writtenBuffer, writeFile, writeBuffer}
+use Rattle.bpg_format.specs.Write.{writeOutcome, writtenAnswer, writtenBuffer, writeFile, writeBuffer, writeSize}
 use Rattle.bpg_import_list.specs.Fields.{listRecord}
-use Rattle.bpg_import_list.specs.Calls.{readList, statusOf, listOutcome, writeAnswer, writeBytes}
+use Rattle.bpg_import_list.specs.Calls.{readList, statusOf, listOutcome, writeAnswer, writeBytes, sizeAnswer}
 use Rattle.bpg_import_list.specs.Typing.{Listable}
 use Rattle.bpg_import_list.specs.Theorems.{ListOf, ListTheorems}
 use Rattle.bpg_import_list.proofs.StatusLaws.{gives}
@@ -32,5 +33,9 @@ written r l source out t o =
     let e = ap (λ (m : Outcome Record). m >>= λ x. writeOutcome (length out) x source) (to-list l r t o) in
     (ap writtenAnswer e, ap (λ (x : Outcome (List ℕ)). writtenBuffer x out) e)
 
+sized : (r : Record) (l source : List ℕ) → Listable r → ListOf r l → sizeAnswer l source ≡ writeSize r source
+unfolding sizeAnswer writeSize listOutcome
+sized r l source t o = ap (λ (m : Outcome Record). writtenAnswer (m >>= λ x. writeOutcome maxFile x source)) (to-list l r t o)
+
 pub list-theorems : ListTheorems
-list-theorems = record { exactly = λ l r. (from-list l r, λ x. to-list l r (x .0) (x .1)); written = written }
+list-theorems = record { exactly = λ l r. (from-list l r, λ x. to-list l r (x .0) (x .1)); written = written; sized = sized }

@@ -5,7 +5,7 @@ use Prim.Native.Nat.{ℕ, _*_, _-_, _^_}
 use lib.Dec.{leb}
 use lib.ListN.{length, take, drop, getD, replicate}
 use Rattle.bpg_codec.specs.Outcome.{Outcome, ok, error, _>>=_, guard}
-use Rattle.bpg_format.specs.Limits.{maxEntries}
+use Rattle.bpg_format.specs.Limits.{maxEntries, maxFile}
 use Rattle.bpg_format.specs.declared.record.Record.{Record}
 use Rattle.bpg_format.specs.declared.answer.Written.{Written}
 use Rattle.bpg_format.specs.Write.{writeOutcome, writtenAnswer, writtenBuffer}
@@ -84,3 +84,7 @@ writeAnswer numbers source out = writtenAnswer (listOutcome (length out) numbers
 
 unfoldable pub writeBytes : (numbers source out : List ℕ) → List ℕ
 writeBytes numbers source out = writtenBuffer (listOutcome (length out) numbers source) out
+
+-- the answer before there is a buffer: one that holds every file
+unfoldable pub sizeAnswer : (numbers source : List ℕ) → Written
+sizeAnswer numbers source = writtenAnswer (listOutcome maxFile numbers source)

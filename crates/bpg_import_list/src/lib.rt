@@ -3,4 +3,5 @@ mod check;
 mod file;
 mod record;
 
+pub use file::size;
 pub use file::write;

@@ -10,11 +10,11 @@ use Rattle.bpg_codec.proofs.Select.{select-true}
 use Rattle.bpg_format.specs.declared.answer.Written.{Written}
 use Rattle.bpg_format.specs.Zero.{refusedWritten}
 use Rattle.bpg_nal_escape.specs.declared.rules.Checked.{Checked}
-use Rattle.bpg_nal_escape.specs.Emulation.{unescape, escape, keepsRules}
+use Rattle.bpg_nal_emulation.specs.Emulation.{unescape, escape, keepsRules}
 use Rattle.bpg_nal_escape.specs.Calls.{unescapeAnswer, unescapeBuffer, escapeAnswer, escapeBuffer}
 use Rattle.bpg_nal_escape.specs.Checks.{checkOf}
 use Rattle.bpg_nal_escape.proofs.BufferLaws.{filled}
-use Rattle.bpg_nal_escape.proofs.LengthLaws.{un-most, es-least}
+use Rattle.bpg_nal_emulation.proofs.LengthLaws.{un-most, es-least}
 
 module _ (u out : List ℕ) (r : Checked) (e : r ≡ checkOf u) where
   kept-is : r .kept ≡ keepsRules u

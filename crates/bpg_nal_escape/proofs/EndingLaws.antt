@@ -8,7 +8,7 @@ use lib.Dec.{eqb}
 use lib.ListN.{length, drop, getD, length-drop}
 use lib.Seq.{getD-drop}
 use borrow.Author.Tests.{eq-eqb, ne-eqb}
-use Rattle.bpg_nal_escape.specs.Endings.{endsOpen}
+use Rattle.bpg_nal_emulation.specs.Endings.{endsOpen}
 
 ends-short : (l : List ℕ) → length l < 2 → endsOpen l ≡ false
 unfolding endsOpen

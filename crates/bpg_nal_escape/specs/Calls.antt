@@ -6,7 +6,7 @@ use lib.ListN.{length}
 use Rattle.bpg_codec.specs.Outcome.{Outcome, ok, _>>=_, guard}
 use Rattle.bpg_format.specs.declared.answer.Written.{Written}
 use Rattle.bpg_format.specs.Write.{writtenAnswer, writtenBuffer}
-use Rattle.bpg_nal_escape.specs.Emulation.{unescape, escape, keepsRules}
+use Rattle.bpg_nal_emulation.specs.Emulation.{unescape, escape, keepsRules}
 
 abbrev pub unescapeOutcome : (capacity : ℕ) → List ℕ → Outcome (List ℕ)
 unescapeOutcome capacity u =

@@ -1,8 +1,3 @@
--- Emulation prevention in NAL units.
-pub mod Emulation
+-- What undoing and redoing emulation prevention answer.
 pub mod Calls
 pub mod Checks
-pub mod Scans
-pub mod Endings
-pub mod RoundTrips
-pub mod Examples

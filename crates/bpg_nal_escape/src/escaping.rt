@@ -1,17 +1,17 @@
 // Emulation prevention redone.
-use crate::pattern;
 use bpg_bytes::BytePos;
 use bpg_bytes::buffer;
 use bpg_format::Written;
 use bpg_format::written_refused;
+use bpg_nal_emulation::pattern;
 ghost use mathlib.Core.Path.{_≡_};
 ghost use mathlib.Core.List.{[], _∷_, _++_};
 ghost use Prim.Native.Nat.{_+_, _≤_};
 ghost use lib.ListN.{length, drop};
 ghost use Rattle.bpg_codec.specs.Buffer.{written};
-ghost use Rattle.bpg_nal_escape.specs.Emulation.{escape as escaped};
+ghost use Rattle.bpg_nal_emulation.specs.Emulation.{escape as escaped};
 ghost use Rattle.bpg_nal_escape.specs.Calls.{escapeAnswer, escapeBuffer};
-ghost use Rattle.bpg_nal_escape.specs.Endings.{endsOpen};
+ghost use Rattle.bpg_nal_emulation.specs.Endings.{endsOpen};
 
 // Whether the bytes from `from` on end in 00 00.
 fn ends_open(bytes: &[u8], from: BytePos) -> bool

@@ -1,7 +1,7 @@
 // The emulation rules of a unit.
-use crate::pattern;
 use bpg_bytes::BytePos;
 use bpg_bytes::byte_at;
+use bpg_nal_emulation::pattern;
 ghost use mathlib.Core.Path.{_≡_};
 ghost use Rattle.bpg_nal_escape.specs.Checks.{checkOf};
 

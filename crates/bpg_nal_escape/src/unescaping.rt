@@ -1,16 +1,16 @@
 // Emulation prevention undone.
-use crate::pattern;
 use crate::rules::check;
 use bpg_bytes::BytePos;
 use bpg_bytes::buffer;
 use bpg_format::Written;
 use bpg_format::written_refused;
+use bpg_nal_emulation::pattern;
 ghost use mathlib.Core.Path.{_≡_};
 ghost use mathlib.Core.Bool.{true};
 ghost use mathlib.Core.List.{_++_};
 ghost use Prim.Native.Nat.{_+_, _≤_};
 ghost use lib.ListN.{length, drop};
-ghost use Rattle.bpg_nal_escape.specs.Emulation.{unescape as unescaped, keepsRules};
+ghost use Rattle.bpg_nal_emulation.specs.Emulation.{unescape as unescaped, keepsRules};
 ghost use Rattle.bpg_nal_escape.specs.Calls.{unescapeAnswer, unescapeBuffer};
 
 // Writes the bytes of a unit that keeps the rules, without its emulation prevention bytes, to the front of `out`, which has room. After the

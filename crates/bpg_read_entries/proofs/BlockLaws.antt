@@ -26,10 +26,10 @@ use Rattle.bpg_format.proofs.FileLaws.{extension-lawful}
 use Rattle.bpg_format.proofs.SyntaxLaws.{extension-encode}
 use Rattle.bpg_format.proofs.Chain.{entry-chain}
 use Rattle.bpg_format.proofs.RecordLaws.{entries-length}
-use Rattle.bpg_read_entries.specs.declared.animation.Animation.{Animation}
+use Rattle.bpg_read_animation.specs.declared.animation.Animation.{Animation}
 use Rattle.bpg_read_entries.specs.declared.entry.EntryReading.{EntryReading}
 use Rattle.bpg_read_entries.specs.declared.block.Block.{Block}
-use Rattle.bpg_read_entries.specs.Animations.{foundAnimation}
+use Rattle.bpg_read_animation.specs.Animations.{foundAnimation}
 use Rattle.bpg_read_entries.specs.Blocks.{refusedBlock, blockAnswer, entriesIn}
 use Rattle.bpg_read_entries.proofs.EntryLaws.{Started, entryOf}
 use Rattle.bpg_read_entries.proofs.LastEntry.{entries-snoc, bytes-snoc, has-snoc, loop-snoc, pad-snoc}

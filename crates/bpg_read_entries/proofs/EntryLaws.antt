@@ -25,9 +25,9 @@ use Rattle.bpg_format.specs.Read.{readAnimation, animationFrom, readEntry, Read
 use Rattle.bpg_format.proofs.Chain.{entry-chain}
 use Rattle.bpg_format.proofs.RuleLaws.{loop-reads, loop-read}
 use Rattle.bpg_format.proofs.ReadingRefusals.{loop-refuses, extension-refuses}
-use Rattle.bpg_read_entries.specs.declared.animation.Animation.{Animation}
+use Rattle.bpg_read_animation.specs.declared.animation.Animation.{Animation}
 use Rattle.bpg_read_entries.specs.declared.entry.EntryReading.{EntryReading}
-use Rattle.bpg_read_entries.specs.Animations.{foundAnimation, animationAnswer}
+use Rattle.bpg_read_animation.specs.Animations.{foundAnimation, animationAnswer}
 use Rattle.bpg_read_entries.specs.Entries.{EntryHead, entryStart, animationControl, refusedEntry, foundEntry, entryHeadAnswer}
 
 -- ---- the start of an entry

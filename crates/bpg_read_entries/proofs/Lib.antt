@@ -1,5 +1,4 @@
 -- Laws of the readers of the extension block.
-pub mod AnimationLaws
 pub mod EntryLaws
 pub mod LastEntry
 pub mod BlockLaws

@@ -13,7 +13,7 @@ use Rattle.bpg_format.specs.Rules.{hasAnimation, noAnimation}
 use Rattle.bpg_format.specs.Read.{animationOf, readEntries}
 use Rattle.bpg_format.specs.Records.{entriesAt, padEntries}
 use Rattle.bpg_read_entries.specs.declared.block.Block.{Block}
-use Rattle.bpg_read_entries.specs.Animations.{foundAnimation}
+use Rattle.bpg_read_animation.specs.Animations.{foundAnimation}
 
 abbrev pub refusedBlock : (status offset : ℕ) → Block
 refusedBlock s o =

@@ -1,4 +1,3 @@
 -- What the readers of the extension block answer.
-pub mod Animations
 pub mod Entries
 pub mod Blocks

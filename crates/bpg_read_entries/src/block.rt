@@ -1,12 +1,12 @@
 // The entries of the extension block.
-use crate::animation;
-use crate::animation::Animation;
 use crate::entry;
 use bpg_bytes::BytePos;
 use bpg_format::Entry;
 use bpg_format::MAX_ENTRIES;
 use bpg_format::MAX_FILE;
 use bpg_format::zero_entry;
+use bpg_read_animation::animation;
+use bpg_read_animation::animation::Animation;
 ghost use mathlib.Core.Path.{_≡_};
 ghost use Rattle.bpg_read_entries.specs.Blocks.{refusedBlock, blockAnswer, entriesIn};
 

@@ -1,18 +1,18 @@
 // One entry of the extension block: tag, length, payload; and what tag 5 adds.
-use crate::animation;
-use crate::animation::Animation;
 use bpg_bytes::BytePos;
 use bpg_format::Entry;
 use bpg_format::MAX_FILE;
 use bpg_format::Range;
 use bpg_format::zero_entry;
+use bpg_read_animation::animation;
+use bpg_read_animation::animation::Animation;
 use bpg_ue7::ue7;
 use bpg_ue7::ue7::Number;
 ghost use mathlib.Core.Path.{_≡_};
 ghost use Prim.Native.Nat.{_+_, _≤_};
 ghost use lib.ListN.{length as count, take, drop};
 ghost use Rattle.bpg_format.specs.Limits.{maxFile};
-ghost use Rattle.bpg_read_entries.specs.Animations.{animationAnswer};
+ghost use Rattle.bpg_read_animation.specs.Animations.{animationAnswer};
 ghost use Rattle.bpg_read_entries.specs.Entries.{entryStart, refusedEntry, foundEntry, entryHeadAnswer, animationControl, entryIn};
 
 // Status 0, the entry, and the offset after it; or a refusal.

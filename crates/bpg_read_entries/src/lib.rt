@@ -1,4 +1,3 @@
-// The extension block of a BPG file: its entries, and the animation control of tag 5.
-pub mod animation;
+// The extension block of a BPG file: its entries, and the animation control among them.
 pub mod block;
 pub mod entry;

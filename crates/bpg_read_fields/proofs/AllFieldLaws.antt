@@ -21,7 +21,7 @@ use Rattle.bpg_format.specs.FileCodec.{oneBit, optional, sizeFields, pcmFields,
 use Rattle.bpg_format.proofs.FileLaws.{optional-lawful, pcm-lawful, sps-lawful}
 use Rattle.bpg_read_fields.specs.declared.all_fields.Fields.{Fields}
 use Rattle.bpg_read_fields.specs.AllFields.{restSequence, fieldsAnswer}
-use Rattle.bpg_read_fields.proofs.FieldLaws.{flag-advances}
+use Rattle.bpg_read_groups.proofs.FieldLaws.{flag-advances}
 
 -- ---- what is left
 

@@ -1,4 +1,2 @@
--- Laws of the readers of a HEVC header's fields.
-pub mod FieldLaws
+-- Laws of the reader of a HEVC header's fields.
 pub mod AllFieldLaws
-pub mod SizeLaws

@@ -1,4 +1,2 @@
--- What the readers of a HEVC header's fields answer.
-pub mod Fields
-pub mod Sizes
+-- What the reader of a HEVC header's fields answers.
 pub mod AllFields

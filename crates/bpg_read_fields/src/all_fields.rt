@@ -1,15 +1,15 @@
 // All fields of a HEVC header, in the specification's order.
-use crate::fields;
-use crate::fields::Flag;
-use crate::fields::Pcm;
-use crate::fields::Sizes;
-use crate::fields::Sps;
-use crate::range_flags;
-use crate::sizes;
 use bpg_bits::bits::BitNumber;
 use bpg_bytes::BitPos;
 use bpg_format::Header;
 use bpg_format::zero_header;
+use bpg_read_groups::fields;
+use bpg_read_groups::fields::Flag;
+use bpg_read_groups::fields::Pcm;
+use bpg_read_groups::fields::Sizes;
+use bpg_read_groups::fields::Sps;
+use bpg_read_groups::range_flags;
+use bpg_read_sizes::sizes;
 ghost use mathlib.Core.Path.{_≡_};
 ghost use Rattle.bpg_codec.specs.Codec.{decodeAt};
 ghost use Rattle.bpg_bits.specs.BitNumbers.{regionBits};

@@ -1,5 +1,2 @@
 // The fields of a HEVC header, read from its bits.
 pub mod all_fields;
-mod fields;
-mod range_flags;
-mod sizes;

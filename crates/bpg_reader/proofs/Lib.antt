@@ -5,5 +5,3 @@ pub mod BodyChain
 pub mod BodyRecord
 pub mod BodyLaws
 pub mod FileLaws
-pub mod PartLaws
-pub mod BoundsLaws

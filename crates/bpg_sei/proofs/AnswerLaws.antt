@@ -8,8 +8,8 @@ use lib.ListN.{length, drop, length-drop, length-append}
 use Rattle.bpg_codec.specs.Outcome.{Outcome, ok, error}
 use Rattle.bpg_codec.proofs.Lists.{either-way}
 use Rattle.bpg_nal_units.proofs.Cases.{by-test, one-answer}
-use Rattle.bpg_nal_escape.specs.Emulation.{zerosAfter, isMark, unescapeFrom, contentAt}
-use Rattle.bpg_nal_escape.proofs.WalkLaws.{un-end, un-mark, un-byte}
+use Rattle.bpg_nal_emulation.specs.Emulation.{zerosAfter, isMark, unescapeFrom, contentAt}
+use Rattle.bpg_nal_emulation.proofs.WalkLaws.{un-end, un-mark, un-byte}
 use Rattle.bpg_sei.specs.declared.content.Step.{Step}
 use Rattle.bpg_sei.specs.declared.content.Cursor.{Cursor}
 use Rattle.bpg_sei.specs.declared.sum.Sum.{Sum}

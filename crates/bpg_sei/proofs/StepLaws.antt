@@ -11,8 +11,8 @@ use Rattle.bpg_codec.specs.Outcome.{ok, error}
 use Rattle.bpg_codec.proofs.Lists.{drop-next}
 use Rattle.bpg_codec.proofs.Select.{select-true, select-false}
 use Rattle.bpg_nal_units.proofs.Cases.{one-answer}
-use Rattle.bpg_nal_escape.specs.Emulation.{zerosAfter, isMark, contentAt}
-use Rattle.bpg_nal_escape.proofs.WalkLaws.{mark-no-zeros, un-end, un-mark, un-byte}
+use Rattle.bpg_nal_emulation.specs.Emulation.{zerosAfter, isMark, contentAt}
+use Rattle.bpg_nal_emulation.proofs.WalkLaws.{mark-no-zeros, un-end, un-mark, un-byte}
 use Rattle.bpg_sei.specs.declared.content.Cursor.{Cursor}
 use Rattle.bpg_sei.specs.declared.content.Step.{Step}
 use Rattle.bpg_sei.specs.declared.sum.Sum.{Sum}

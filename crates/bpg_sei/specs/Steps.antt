@@ -5,7 +5,7 @@ use mathlib.Core.List.{List, [], _∷_}
 use Prim.Native.Nat.{ℕ, min, _+_, _≤_, _<_, _^_}
 use lib.ListN.{length, drop}
 use Rattle.bpg_codec.specs.Outcome.{Outcome, ok, error}
-use Rattle.bpg_nal_escape.specs.Emulation.{contentAt}
+use Rattle.bpg_nal_emulation.specs.Emulation.{contentAt}
 use Rattle.bpg_sei.specs.declared.content.Cursor.{Cursor}
 use Rattle.bpg_sei.specs.declared.content.Step.{Step}
 use Rattle.bpg_sei.specs.declared.sum.Sum.{Sum}

@@ -1,7 +1,7 @@
 // The content of a unit, byte by byte.
 use bpg_bytes::BytePos;
 ghost use mathlib.Core.Path.{_≡_};
-ghost use Rattle.bpg_nal_escape.specs.Emulation.{zerosAfter, isMark};
+ghost use Rattle.bpg_nal_emulation.specs.Emulation.{zerosAfter, isMark};
 ghost use Rattle.bpg_sei.specs.Steps.{Stepped};
 
 // Where reading stands: an offset in the unit, and the zeros in a row before it, of which two count.

@@ -5,7 +5,7 @@ use crate::message;
 use bpg_bytes::BytePos;
 ghost use mathlib.Core.Path.{_≡_};
 ghost use Prim.Native.Nat.{_<_, _^_};
-ghost use Rattle.bpg_nal_escape.specs.Emulation.{contentAt};
+ghost use Rattle.bpg_nal_emulation.specs.Emulation.{contentAt};
 ghost use Rattle.bpg_sei.specs.Messages.{ends, durationsIn};
 ghost use Rattle.bpg_sei.specs.Steps.{leftAt, heard, seiAnswer};
 

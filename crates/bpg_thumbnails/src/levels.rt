@@ -7,7 +7,6 @@ use bpg_format::Entry;
 use bpg_format::Record;
 use bpg_reader::read;
 ghost use mathlib.Core.Path.{_≡_};
-ghost use mathlib.Core.Bool.{not};
 ghost use Rattle.bpg_thumbnails.specs.declared.levels.Size.{Size};
 ghost use Rattle.bpg_thumbnails.specs.Thumbnails.{isSmaller, checkEntries};
 ghost use Rattle.bpg_thumbnails.specs.Calls.{checkedOf};

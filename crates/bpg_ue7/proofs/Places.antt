@@ -1,19 +1,19 @@
 -- A number is refused where its bytes end, or at the byte that takes it over its limit, or with 7 at its first byte.
-use mathlib.Core.Path.{_≡_, refl, sym, ap, _∙_, subst}
+use mathlib.Core.Path.{_≡_, refl, sym, ap, subst}
 use mathlib.Core.Bool.{Bool, true, false, not}
 use mathlib.Core.List.{List, [], _∷_}
 use mathlib.Core.Logic.{_⊎_, inl, inr, ⊎-elim}
 use Prim.Native.Nat.{ℕ, suc, _+_, _-_, _*_, _%_, _^_, _≤_, _<_}
 use native.Mathlib.Omega.{arith}
 use lib.Dec.{ltb, eqb}
-use lib.ListN.{length, take}
+use lib.ListN.{length}
 use lib.Pow.{pow-pos}
 use borrow.Author.Tests.{ltb-true, ltb-false}
 use Rattle.bpg_codec.specs.Select.{select}
 use Rattle.bpg_codec.specs.Outcome.{Outcome, ok, error, _>>=_, guard, Decoded, decoded}
 use Rattle.bpg_codec.proofs.Outcome.{error-not-ok}
 use Rattle.bpg_ue7.specs.Ue7.{ue7Rest, ue7Decode}
-use Rattle.bpg_ue7.specs.Places.{TakesOver, Places, valueFrom}
+use Rattle.bpg_ue7.specs.Places.{TakesOver, Places}
 
 -- how a number is refused after its first byte's mark was looked at
 abbrev Stops : (n v p : ℕ) (l : List ℕ) (s o : ℕ) → Type 0

@@ -5,54 +5,30 @@ use mathlib.Core.Logic.{_≢_}
 use mathlib.Core.List.{List, [], _∷_, map}
 use Prim.Native.Nat.{ℕ, zero, suc, _+_, _-_, _≤_, _<_}
 use native.Mathlib.Omega.{arith}
-use lib.ListN.{length, take, drop, getD, length-take, drop-of-length-le}
+use lib.ListN.{length, take, drop, getD}
 use lib.Seq.{getD-take, length-take-le}
 use borrow.Author.Tests.{eq-eqb, ne-eqb}
 use Rattle.bpg_codec.specs.Outcome.{Outcome, ok, error, _>>=_, guard}
 use Rattle.bpg_codec.proofs.Select.{select-true, select-false}
 use Rattle.bpg_codec.proofs.Outcome.{bind-assoc}
-use Rattle.bpg_codec.proofs.Lists.{drop-next}
 use Rattle.bpg_codec.proofs.Refusals.{refuses-ok, refuses-select}
-use Rattle.bpg_format.specs.Limits.{maxEntries}
 use Rattle.bpg_format.specs.declared.record.Entry.{Entry}
 use Rattle.bpg_format.specs.declared.record.Range.{Range}
 use Rattle.bpg_format.specs.declared.record.Record.{Record}
 use Rattle.bpg_format.specs.Content.{Extension, AnimationControl}
-use Rattle.bpg_format.specs.Rules.{isAnimation, hasAnimation}
+use Rattle.bpg_format.specs.Rules.{isAnimation}
 use Rattle.bpg_format.specs.Read.{readAnimation}
 use Rattle.bpg_format.specs.Records.{bytesIn, extensionOf, usedEntries}
-use Rattle.bpg_format.specs.Write.{inSource, entriesInSource, rangesInSource, isZero, zeroEntries, unusedZero, sameAnimation, atZero, checkAnimation, checkEntries, WritingStatus}
+use Rattle.bpg_format.specs.Write.{inSource, entriesInSource, rangesInSource, sameAnimation, atZero, checkAnimation, checkEntries, SizingStatus}
 use Rattle.bpg_format.proofs.RuleLaws.{bool-apart}
 use Rattle.bpg_format.proofs.WritingRefusals.{AtZero, R, rule, loop-check}
-use Rattle.bpg_read_entries.specs.declared.animation.Animation.{Animation}
-use Rattle.bpg_read_entries.specs.Animations.{animationAnswer}
+use Rattle.bpg_read_animation.specs.declared.animation.Animation.{Animation}
+use Rattle.bpg_read_animation.specs.Animations.{animationAnswer}
+use Rattle.bpg_record_entries.proofs.UsedLaws.{used-next, used-end}
 use Rattle.bpg_write_check.specs.Check.{statusOf, animationNumbers, checkEntry}
 use Rattle.bpg_write_check.proofs.StatusLaws.{stops, goes-on}
 
--- ---- the next entry
-
-module _ (es : List Entry) (n k : ℕ) where
-  -- whatever stands for an entry past the end
-  used-next : (d : Entry) → k < n → n ≤ length es → drop k (take n es) ≡ getD es k d ∷ drop (k + 1) (take n es)
-  used-next d h m =
-      drop-next (take n es) k d (omega (arith, length-take-le n es m))
-      ∙ ap (λ (e : Entry). e ∷ drop (k + 1) (take n es)) (getD-take n es k d h)
-
-  used-end : n ≤ k → drop k (take n es) ≡ []
-  used-end h = drop-of-length-le (take n es) {i = k} (omega (arith, length-take n es))
-
 -- ---- refusal 18
-
-module _ (source : List ℕ) (es : List Entry) (n k : ℕ) (most : n ≤ length es) (rest : entriesInSource source (drop k (take n es)) ≡ entriesInSource source (take n es)) (d : Entry) where
-  pub payload-outside : k < n → inSource source (getD es k d .payload) ≡ false → false ≡ entriesInSource source (take n es)
-  payload-outside h e = rw (used-next es n k d h most, e) at rest
-
-  pub payload-inside : k < n → inSource source (getD es k d .payload) ≡ true → entriesInSource source (drop (k + 1) (take n es)) ≡ entriesInSource source (take n es)
-  payload-inside h e = rw (used-next es n k d h most, e) at rest
-
-pub payloads-inside : (source : List ℕ) (es : List Entry) (n k : ℕ) → entriesInSource source (drop k (take n es)) ≡ entriesInSource source (take n es)
-    → n ≤ k → true ≡ entriesInSource source (take n es)
-payloads-inside source es n k rest h = rw (used-end es n k h) at rest
 
 both : (a b : Bool) → (a && b) ≡ true → (a ≡ true) × (b ≡ true)
 both true b e = (refl, e)
@@ -83,37 +59,6 @@ pub data-held : (source : List ℕ) (r : Record) → rangesInSource source r ≡
 unfolding rangesInSource
 data-held source r e = both (entriesInSource source (usedEntries r)) (inSource source (r .«data»)) e .1
 
--- ---- unused entries
-
-module _ (r : Record) (k : ℕ) (whole : length (r .entries) ≡ maxEntries) (rest : zeroEntries (drop k (r .entries)) ≡ unusedZero r) where
-  module _ (d : Entry) (h : k < maxEntries) where
-    pub unused-set : isZero (getD (r .entries) k d) ≡ false → false ≡ unusedZero r
-    unused-set e = rw (drop-next (r .entries) k d (omega arith), e) at rest
-
-    pub unused-clear : isZero (getD (r .entries) k d) ≡ true → zeroEntries (drop (k + 1) (r .entries)) ≡ unusedZero r
-    unused-clear e = rw (drop-next (r .entries) k d (omega arith), e) at rest
-
-  pub all-clear : maxEntries ≤ k → true ≡ unusedZero r
-  all-clear h = rw (drop-of-length-le (r .entries) {i = k} (omega arith)) at rest
-
-pub unused-begins : (r : Record) → zeroEntries (drop (r .«entry_count») (r .entries)) ≡ unusedZero r
-unfolding unusedZero
-unused-begins r = refl
-
--- ---- an entry with tag 5
-
-module _ (source : List ℕ) (es : List Entry) (n k : ℕ)
-    (rest : hasAnimation (map (extensionOf source) (drop k (take n es))) ≡ hasAnimation (map (extensionOf source) (take n es))) where
-  module _ (d : Entry) (most : n ≤ length es) (h : k < n) where
-    pub control-found : getD es k d .tag ≡ 5 → true ≡ hasAnimation (map (extensionOf source) (take n es))
-    control-found e = rw (used-next es n k d h most, eq-eqb _ _ e) at rest
-
-    pub control-further : getD es k d .tag ≢ 5 → hasAnimation (map (extensionOf source) (drop (k + 1) (take n es))) ≡ hasAnimation (map (extensionOf source) (take n es))
-    control-further e = rw (used-next es n k d h most, ne-eqb _ _ e) at rest
-
-  pub no-control : n ≤ k → false ≡ hasAnimation (map (extensionOf source) (take n es))
-  no-control h = rw (used-end es n k h) at rest
-
 -- ---- the loop numbers
 
 -- a payload of tag 5, by what is read of it
@@ -143,7 +88,7 @@ module _ (p : AnimationControl) (l : List ℕ) where
       decided : (t : Bool) → sameAnimation p (animationNumbers a) ≡ t → statusOf (guard t 19 0) ≡ statusOf (checkAnimation p l)
       decided t s =
           read-or-refused (λ x c f. sym (rw (c, sym (λ i. sameAnimation p (animationNumbers (f i))) ∙ s)))
-          (λ s o c f. absurd (subst WritingStatus (sym (ap (λ (y : Animation). y .status) f) ∙ z) (loop-check p l s 0 c .0)))
+          (λ s o c f. absurd (subst SizingStatus (sym (ap (λ (y : Animation). y .status) f) ∙ z) (loop-check p l s 0 c .0)))
 
       pub loop-differs : sameAnimation p (animationNumbers a) ≡ false → 19 ≡ statusOf (checkAnimation p l)
       loop-differs s = decided false s

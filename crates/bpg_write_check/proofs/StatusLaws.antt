@@ -5,7 +5,7 @@ use mathlib.Core.Logic.{_≢_}
 use Prim.Native.Nat.{ℕ, suc}
 use native.Mathlib.Omega.{arith}
 use Rattle.bpg_codec.specs.Outcome.{Outcome, ok, error, _>>=_, guard}
-use Rattle.bpg_format.specs.Write.{WritingStatus}
+use Rattle.bpg_format.specs.Write.{SizingStatus}
 use Rattle.bpg_format.proofs.WritingRefusals.{R}
 use Rattle.bpg_write_check.specs.Check.{statusOf}
 
@@ -20,7 +20,7 @@ module _ (m : Outcome (Unit {0})) (h : R m) where
     where
       by : (m : Outcome (Unit {0})) → R m → statusOf m ≡ 0 → m ≡ ok tt
       by (ok a) h z = refl
-      by (error s o) h z = absurd (subst WritingStatus z (h s o refl .0))
+      by (error s o) h z = absurd (subst SizingStatus z (h s o refl .0))
 
   pub refuses : statusOf m ≢ 0 → m ≡ error (statusOf m) 0
   refuses n = by m h n

@@ -13,7 +13,7 @@ use Rattle.bpg_format.specs.Content.{Extension, AnimationControl, Content, hasA
 use Rattle.bpg_format.specs.Rules.{isAnimation, hasAnimation}
 use Rattle.bpg_format.specs.Tests.{colorSpaceAllowed}
 use Rattle.bpg_format.specs.Write.{checkAnimation, checkHeader, checkRecord}
-use Rattle.bpg_read_entries.specs.declared.animation.Animation.{Animation}
+use Rattle.bpg_read_animation.specs.declared.animation.Animation.{Animation}
 
 -- 0, or the error's status
 abbrev pub statusOf : {A : Type 0} → Outcome A → ℕ

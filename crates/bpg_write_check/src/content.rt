@@ -6,6 +6,7 @@ use bpg_format::Record;
 use bpg_format::color_space_allowed;
 use bpg_format::data_allowed;
 use bpg_format::has_alpha;
+use bpg_record_entries::used;
 ghost use mathlib.Core.Path.{_≡_};
 ghost use mathlib.Core.Bool.{true};
 ghost use mathlib.Core.List.{List};
@@ -51,12 +52,11 @@ fn alpha_status(record: Record, depth: u8) -> u8
 
 // From the extension block to the data.
 fn headers_status(record: Record) -> u8
-    requires { ⌜ «record» .«entry_count» ≤ maxEntries ⌝ }
     requires { ⌜ «record» .«bit_depth_minus_8» ≤ 6 ⌝ }
     ensures { λ r. ⌜ ((source : List ℕ) → r ≡ statusOf (checkHeaders (contentOf «record» source))) ⌝ }
 {
     // refusal 14: with the animation flag, an entry with tag 5 is there
-    let controlled = !record.animation_flag | entries::has_control(record);
+    let controlled = !record.animation_flag | used::has_control(record);
     if !controlled {
         return 14;
     }

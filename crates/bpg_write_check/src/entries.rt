@@ -1,61 +1,18 @@
-// The entries of a record: those in use, and those that are not.
+// The entries of a record that are in use, judged one after another.
 use bpg_bytes::BytePos;
 use bpg_format::Entry;
-use bpg_format::MAX_ENTRIES;
 use bpg_format::Range;
 use bpg_format::Record;
-use bpg_read_entries::animation;
-use bpg_read_entries::animation::Animation;
+use bpg_read_animation::animation;
+use bpg_read_animation::animation::Animation;
 ghost use mathlib.Core.Path.{_≡_};
 ghost use mathlib.Core.Bool.{true, false};
-ghost use mathlib.Core.List.{List, map};
-ghost use Prim.Native.Nat.{ℕ, _≤_};
+ghost use mathlib.Core.List.{map};
+ghost use Prim.Native.Nat.{_≤_};
 ghost use Rattle.bpg_format.specs.Limits.{maxEntries};
-ghost use Rattle.bpg_format.specs.Rules.{hasAnimation};
 ghost use Rattle.bpg_format.specs.Records.{bytesIn, extensionOf, usedEntries, recordAnimation};
-ghost use Rattle.bpg_format.specs.Write.{inSource, entriesInSource, isZero, unusedZero, sameAnimation, checkAnimation, checkEntries};
+ghost use Rattle.bpg_format.specs.Write.{inSource, entriesInSource, sameAnimation, checkAnimation, checkEntries};
 ghost use Rattle.bpg_write_check.specs.Check.{statusOf, animationNumbers, checkEntry};
-
-fn is_zero(entry: Entry) -> bool
-    ensures { λ r. ⌜ r ≡ isZero entry ⌝ }
-{
-    (entry.tag == 0) & ((entry.payload.start == 0) & (entry.payload.length == 0))
-}
-
-// Refusal 19: the entries that are not in use are zero.
-pub(crate) fn unused_zero(record: Record) -> bool
-    requires { ⌜ «record» .«entry_count» ≤ maxEntries ⌝ }
-    ensures { λ r. ⌜ r ≡ unusedZero «record» ⌝ }
-{
-    let entries = record.entries;
-    let mut k = record.entry_count as usize;
-    while k < MAX_ENTRIES {
-        let entry = entries[k];
-        if !is_zero(entry) {
-            return false;
-        }
-        k += 1;
-    }
-    true
-}
-
-// An entry with tag 5 is in use. No byte of a source matters to it.
-pub(crate) fn has_control(record: Record) -> bool
-    requires { ⌜ «record» .«entry_count» ≤ maxEntries ⌝ }
-    ensures { λ r. ⌜ ((source : List ℕ) → r ≡ hasAnimation (map (extensionOf source) (usedEntries «record»))) ⌝ }
-{
-    let entries = record.entries;
-    let count = record.entry_count as usize;
-    let mut k: usize = 0;
-    while k < count {
-        let entry = entries[k];
-        if entry.tag == 5 {
-            return true;
-        }
-        k += 1;
-    }
-    false
-}
 
 // The record's loop numbers are these.
 pub fn same_loop(record: Record, animation: Animation) -> bool

@@ -1,7 +1,7 @@
 // Refusals 15, 17 and 16 of a header.
 use bpg_format::Header;
-use bpg_header_rules::coded;
 use bpg_header_rules::rules;
+use bpg_write_rules::coded;
 ghost use mathlib.Core.Path.{_≡_};
 ghost use Rattle.bpg_format.specs.Write.{checkHeader};
 ghost use Rattle.bpg_write_check.specs.Check.{statusOf};

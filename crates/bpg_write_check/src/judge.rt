@@ -1,10 +1,10 @@
 // The writer's refusals but for those of size: 11, 18, 19, then the rules in file order.
 use crate::consistent;
 use crate::content;
-use crate::entries;
-use crate::ranges;
 use bpg_format::MAX_ENTRIES;
 use bpg_format::Record;
+use bpg_record_entries::ranges;
+use bpg_record_entries::used;
 ghost use mathlib.Core.Path.{_≡_};
 ghost use Rattle.bpg_write_check.specs.Check.{checkStatus};
 
@@ -18,7 +18,7 @@ pub fn record(record: Record, source: &[u8]) -> u8
     if !ranges::all_in(record, source) {
         return 18;
     }
-    if !entries::unused_zero(record) {
+    if !used::unused_zero(record) {
         return 19;
     }
     if !consistent::all(record) {

@@ -4,4 +4,3 @@ mod content;
 mod entries;
 mod header;
 pub mod judge;
-mod ranges;

@@ -1,7 +1,4 @@
 -- Laws of writing.
-pub mod LayoutLaws
 pub mod PutLaws
 pub mod PartLaws
-pub mod JudgedLaws
-pub mod SizeLaws
 pub mod FileLaws

@@ -3,19 +3,15 @@ use mathlib.Core.Path.{_≡_, refl, sym, ap, _∙_}
 use mathlib.Core.List.{List, [], _∷_, _++_, map, append-assoc, append-nil}
 use Prim.Native.Nat.{ℕ, zero, suc, _+_, _≤_, _<_}
 use native.Mathlib.Omega.{arith}
-use lib.ListN.{length, take, drop, getD, length-append, length-drop}
-use lib.Seq.{length-take-le, take-suc}
+use lib.ListN.{length, take, drop, getD, length-append}
+use lib.Seq.{take-suc}
 use Rattle.bpg_codec.specs.Lawful.{All}
 use Rattle.bpg_ue7.specs.Ue7.{ue7Bytes}
-use Rattle.bpg_format.specs.declared.record.Range.{Range}
 use Rattle.bpg_format.specs.declared.record.Entry.{Entry}
 use Rattle.bpg_format.specs.Zero.{zeroEntry}
 use Rattle.bpg_format.specs.Syntax.{extensionBytes, blockBytes}
 use Rattle.bpg_format.specs.Records.{bytesIn, extensionOf}
-
--- a range in its source has its length
-pub range-length : (source : List ℕ) (r : Range) → r .start + r .length ≤ length source → length (bytesIn source r) ≡ r .length
-range-length source r h = length-take-le (r .length) (drop (r .start) source) (omega (arith, length-drop (r .start) source))
+use Rattle.bpg_write_plan.proofs.SizeLaws.{range-length}
 
 pub entry-bytes : (source : List ℕ) (e : Entry) → e .payload .start + e .payload .length ≤ length source → (n : ℕ) → n ≡ e .payload .length
     → ue7Bytes (e .tag) ++ (ue7Bytes (e .payload .length) ++ take n (drop (e .payload .start) source)) ≡ extensionBytes (extensionOf source e)

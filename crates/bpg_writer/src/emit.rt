@@ -4,8 +4,8 @@ use bpg_bytes::buffer;
 use bpg_format::Entry;
 use bpg_format::Range;
 use bpg_format::Record;
-use bpg_ue7::ue7;
 use bpg_write_bits::BitBuffer;
+use bpg_write_ue7::ue7;
 ghost use mathlib.Core.Path.{_≡_};
 ghost use Prim.Native.Nat.{_+_, _≤_, _<_};
 ghost use lib.ListN.{length as count};
@@ -15,7 +15,7 @@ ghost use Rattle.bpg_format.specs.Limits.{maxEntries};
 ghost use Rattle.bpg_format.specs.Syntax.{byte4 as byteFour, byte5 as byteFive, extensionBytes};
 ghost use Rattle.bpg_codec.specs.Lawful.{All};
 ghost use Rattle.bpg_format.specs.Records.{extensionOf, usedEntries, recordFlags};
-ghost use Rattle.bpg_writer.specs.FileParts.{headPart, RangeInside, entriesPart, blockPart, headerPart, headersAndDataPart};
+ghost use Rattle.bpg_write_plan.specs.FileParts.{headPart, RangeInside, entriesPart, blockPart, headerPart, headersAndDataPart};
 
 fn bit(b: bool) -> u8
     ensures { λ r. ⌜ (r ≡ bitOf b) × (r < 2) ⌝ }

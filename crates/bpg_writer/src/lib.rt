@@ -1,6 +1,7 @@
-// Writing a record as the file that the syntax gives: judged and measured first, and then written.
+// Writing a record as the file that the syntax gives: planned first, and then written.
 mod emit;
 mod file;
-mod layout;
 
+pub use file::size;
 pub use file::write;
+pub use file::write_or_size;

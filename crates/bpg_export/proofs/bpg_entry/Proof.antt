@@ -1,6 +1,6 @@
 -- `bpg_entry` meets its contract.
 use mathlib.Core.Path.{sym, _∙_}
-use Rattle.bpg_reader.specs.declared.parts.EntryAt.{EntryAt}
+use Rattle.bpg_parts.specs.declared.parts.EntryAt.{EntryAt}
 use Rattle.bpg_export.proofs.CallLaws.{answered}
 use borrow.Author.Needs.{needs}
 use Rattle.bpg_export.proofs.bpg_entry.Statement.{statement}

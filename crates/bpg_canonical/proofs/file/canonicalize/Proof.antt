@@ -1,42 +1,12 @@
 -- `file::canonicalize` meets its contract.
-use mathlib.Core.Path.{ap, _∙_}
-use native.Mathlib.Omega.{arith}
-use Rattle.bpg_codec.proofs.Tokens.{all-bytes}
-use Rattle.bpg_format.specs.declared.record.Record.{Record}
-use Rattle.bpg_format.specs.Write.{writeFile, writeBuffer}
-use Rattle.bpg_canonical.proofs.FileLaws.{refused, canonicalized}
+use mathlib.Core.Path.{refl, _∙_}
 use borrow.Author.Needs.{needs}
+use Rattle.bpg_codec.proofs.Select.{select-false}
 use Rattle.bpg_canonical.proofs.file.canonicalize.Statement.{statement}
 use Rattle.bpg_canonical.proofs.file.canonicalize.Tie as tie
 
 returns : tie.Need-returns
-returns c =
-    let r = c .before .before .before in
-    let s = r .before .before .before in
-    let a = refused (s .args .file .now) (s .args .out .now) (r .read .result) (r .read .ensures .0) (c .before .if1 .taken) in
-    (c .written-refused .ensures ∙ a .0, a .1)
-
-returns-2 : tie.Need-returns-2
-returns-2 c =
-    let w = c .before .before in
-    let k = w .before .before in
-    let e = k .before .before in
-    let r = e .before .before in
-    let s = r .before .before .before in
-    let file = s .args .file .now in
-    let e1 = ap (λ (x : Record). writeFile x file (s .args .out .now)) (k .canonical .ensures) in
-    let e2 = ap (λ (x : Record). writeBuffer x file (s .args .out .now)) (k .canonical .ensures) in
-    canonicalized file (s .args .out .now) (r .read .result) (r .read .ensures .0) (all-bytes file (λ i. omega (arith, r .before .before .shared-slice-known .given i))) (e .if1 .left) _ _
-    (w .write .ensures .0 ∙ e1) (w .write .ensures .1 .0 ∙ e2)
+returns c = let e = c .before .before .canonicalize-or-size .ensures in (e .0 ∙ select-false _ _ refl, e .1 ∙ select-false _ _ refl)
 
 pub canonicalize-spec : {M : Type 1} → statement M
-canonicalize-spec =
-    tie.close
-    (tie.spec
-    (λ c κs. search needs)
-    (λ c κs. search needs)
-    returns
-    (λ c κs. search needs)
-    (λ c κs. search needs)
-    (λ c. search needs)
-    returns-2)
+canonicalize-spec = tie.close (tie.spec (λ c κs. search needs) (λ c. search needs) returns)

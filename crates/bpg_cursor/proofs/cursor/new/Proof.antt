@@ -37,14 +37,14 @@ use denote.Exit.{yes}
 use Rattle.bpg_bytes.specs.declared.position.BytePos.{BytePos}
 use Rattle.bpg_bytes.proofs.position.BytePos as P
 use Rattle.bpg_bytes.proofs.position.BytePos.Laws as P′
-use Rattle.bpg_reader.specs.declared.bounds.BlockBounds.{BlockBounds}
-use Rattle.bpg_reader.specs.Bounds.{blockBounds}
-use Rattle.bpg_reader.proofs.bounds.BlockBounds as B
-use Rattle.bpg_reader.proofs.bounds.BlockBounds.Laws as B′
-use Rattle.bpg_reader.proofs.block_bounds as bounds
-use Rattle.bpg_reader.proofs.block_bounds.Symbol as bounds-def
-use Rattle.bpg_reader.proofs.block_bounds.Symbol.{name as #bounds}
-use Rattle.bpg_reader.proofs.block_bounds.Met as bounds-thm
+use Rattle.bpg_parts.specs.declared.bounds.BlockBounds.{BlockBounds}
+use Rattle.bpg_parts.specs.Bounds.{blockBounds}
+use Rattle.bpg_parts.proofs.bounds.BlockBounds as B
+use Rattle.bpg_parts.proofs.bounds.BlockBounds.Laws as B′
+use Rattle.bpg_parts.proofs.block_bounds as bounds
+use Rattle.bpg_parts.proofs.block_bounds.Symbol as bounds-def
+use Rattle.bpg_parts.proofs.block_bounds.Symbol.{name as #bounds}
+use Rattle.bpg_parts.proofs.block_bounds.Met as bounds-thm
 use Rattle.bpg_cursor.specs.declared.cursor.Cursor.{Cursor}
 use Rattle.bpg_cursor.specs.Cursors.{New}
 use Rattle.bpg_cursor.proofs.Held.{Logic, logicOf, Fits, placed, OwnSlice, made}
@@ -193,5 +193,5 @@ new-spec 𝓤 H 𝓜 𝓖 𝓡 =
     entered 𝓤 H (tripleOf 𝓤 H (𝓖 .A) new.signature (new.spec 𝓤 H (𝓖 .A) (𝓜 .mem) (𝓡 .run)))
     (tables 𝓤 H 𝓜 𝓡 code.env .C) (tables 𝓤 H 𝓜 𝓡 code.env .Λ) #new code.function (code.unfolded 𝓤 H 𝓜 𝓡)
     (new-meets (logicOf 𝓤 H 𝓜 𝓖 𝓡) (tablesOf 𝓤 H 𝓜 (tables 𝓤 H 𝓜 𝓡 code.env))
-    (cited 𝓤 H _ 𝓜 𝓡 code.env #bounds bounds-def.routine code.calls-bpg-reader·block-bounds (bounds-thm.met 𝓤 H 𝓜 𝓖 𝓡))
+    (cited 𝓤 H _ 𝓜 𝓡 code.env #bounds bounds-def.routine code.calls-bpg-parts·block-bounds (bounds-thm.met 𝓤 H 𝓜 𝓖 𝓡))
     (cited 𝓤 H _ 𝓜 𝓡 code.env #region region-def.routine code.calls-bpg-cursor·region·region-to (region-thm.met 𝓤 H 𝓜 𝓖 𝓡)))

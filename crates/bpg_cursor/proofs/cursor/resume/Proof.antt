@@ -32,8 +32,8 @@ use denote.Triple.Walked.{says, Stays, stay-none, stay-none-slice, walkOf, goes-
 use denote.Exit.{yes}
 use Rattle.bpg_bytes.proofs.position.BytePos as P
 use Rattle.bpg_bytes.proofs.position.BytePos.Laws as P′
-use Rattle.bpg_reader.proofs.parts.EntryAt as E
-use Rattle.bpg_reader.proofs.parts.EntryAt.Laws as E′
+use Rattle.bpg_parts.proofs.parts.EntryAt as E
+use Rattle.bpg_parts.proofs.parts.EntryAt.Laws as E′
 use Rattle.bpg_cursor.specs.declared.cursor.Cursor.{Cursor}
 use Rattle.bpg_cursor.specs.declared.step.Step.{Step}
 use Rattle.bpg_cursor.specs.Cursors.{stepAt}

@@ -10,7 +10,7 @@ use Rattle.bpg_codec.proofs.Answers.{refused-error, accepted-value}
 use Rattle.bpg_read_entries.specs.declared.entry.EntryReading.{EntryReading}
 use Rattle.bpg_read_entries.specs.Entries.{entryHeadAnswer, entryIn}
 use Rattle.bpg_read_entries.proofs.CheckedEntry.{entry-refuses}
-use Rattle.bpg_reader.specs.declared.parts.EntryAt.{EntryAt}
+use Rattle.bpg_parts.specs.declared.parts.EntryAt.{EntryAt}
 use Rattle.bpg_cursor.specs.declared.step.Step.{Step}
 use Rattle.bpg_cursor.specs.Cursors.{stepOf, stepAt}
 use Rattle.bpg_cursor.proofs.step.step_at.Statement.{statement}

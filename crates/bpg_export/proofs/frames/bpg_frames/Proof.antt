@@ -1,7 +1,7 @@
 -- `frames::bpg_frames` meets its contract.
 use mathlib.Core.Path.{ap}
 use borrow.Author.Needs.{needs}
-use Rattle.bpg_frames.specs.declared.count.Frames.{Frames}
+use Rattle.bpg_frame_units.specs.declared.count.Frames.{Frames}
 use Rattle.bpg_export.proofs.frames.bpg_frames.Statement.{statement}
 use Rattle.bpg_export.proofs.frames.bpg_frames.Tie as tie
 

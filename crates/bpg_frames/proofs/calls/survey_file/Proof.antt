@@ -4,7 +4,7 @@ use borrow.Author.Needs.{needs}
 use borrow.Author.Tests.{not-true, not-false}
 use Rattle.bpg_codec.specs.Lawful.{All, Byte}
 use Rattle.bpg_codec.proofs.Tokens.{all-bytes}
-use Rattle.bpg_frames.proofs.CallLaws.{survey-unread, survey-start, survey-small, survey-refused, survey-few, survey-done}
+use Rattle.bpg_frames.proofs.CallLaws.{survey-unread, survey-refused, survey-few, survey-done}
 use Rattle.bpg_frames.proofs.calls.survey_file.Statement.{statement}
 use Rattle.bpg_frames.proofs.calls.survey_file.Tie as tie
 
@@ -13,14 +13,6 @@ bytes c = all-bytes (c .before .args .file .now) (λ i. omega (arith, c .shared-
 
 returns : tie.Need-returns
 returns c = let r = c .before .before .before in survey-unread _ _ (r .read .ensures .0) (c .before .if1 .taken) _ (c .survey-refused .ensures)
-
-count-frames-requires : tie.Need-count-frames-requires
-count-frames-requires c κs =
-    let e = c .before .before .before in
-    let r = e .before .before in (
-      survey-small _ _ (r .read .ensures .0) (bytes (r .before)) (e .if1 .left),
-      survey-start _ _ (r .read .ensures .0) (bytes (r .before)) (e .if1 .left),
-    )
 
 returns-2 : tie.Need-returns-2
 returns-2 c =
@@ -57,7 +49,7 @@ survey-file-spec =
     returns
     (λ c. search needs)
     (λ c κs. search needs)
-    count-frames-requires
+    (λ c κs. search needs)
     (λ c κs. search needs)
     returns-2
     (λ c κs. search needs)

@@ -52,12 +52,6 @@ code k =
     store-code (at k .loop .inv) (st (at k) .pre) _ (b .starts-frame .ensures) _ (p .put .ensures .0) _ (p .put .ensures .1)
     (k .before .if1 .left) _ (k .cut-at .ensures)
 
-verdict-on-requires : tie.Need-verdict-on-requires Inv-loop μ-loop
-verdict-on-requires c κs =
-    let k = c .before in
-    let h = store-header (at k .loop .inv) (st (at k) .pre) _ (k .cut-at .ensures) in
-    (h .0, h .1)
-
 loop-again : tie.Need-loop-again Inv-loop μ-loop
 loop-again c =
     let a = c .before in
@@ -65,8 +59,9 @@ loop-again c =
     let k = v .before .before in
     let p = k .before .before .before .before in
     let b = p .before .before in
+    let h = store-header (at k .loop .inv) (st (at k) .pre) _ (k .cut-at .ensures) in
     store-more (at k .loop .inv) (st (at k) .pre) _ (b .starts-frame .ensures) _ (p .put .ensures .0) _ (p .put .ensures .1)
-    (k .before .if1 .left) _ (k .cut-at .ensures) _ (v .verdict-on .ensures) _ (a .wait-after .ensures)
+    (k .before .if1 .left) _ (k .cut-at .ensures) _ (v .verdict-on .ensures h) _ (a .wait-after .ensures)
 
 pub store-durations-spec : {M : Type 1} → statement M
 store-durations-spec =
@@ -87,7 +82,7 @@ store-durations-spec =
     (λ c. span c .0)
     (λ c. span c .0)
     (λ c. span c .1)
-    verdict-on-requires
+    (λ c κs. search needs)
     (λ c κs. search needs)
     (λ c. let k = c .before .before .before .before in omega (arith, code k, st (at k) .pre .small))
     (λ c. let k = c .before .before .before .before in omega (arith, code k, span k))

@@ -5,8 +5,8 @@ use mathlib.Core.Path.{_≡_}
 use native.Mathlib.Omega.{arith}
 use lib.ListN.{length, drop}
 use borrow.Author.Needs.{needs}
-use Rattle.bpg_nal_escape.specs.Emulation.{escape}
-use Rattle.bpg_nal_escape.proofs.OffsetLaws.{room, es-count-last, es-count-on}
+use Rattle.bpg_nal_emulation.specs.Emulation.{escape}
+use Rattle.bpg_nal_emulation.proofs.OffsetLaws.{room, es-count-last, es-count-on}
 use Rattle.bpg_nal_escape.proofs.escaping.escaped_count.Statement.{statement}
 use Rattle.bpg_nal_escape.proofs.escaping.escaped_count.Tie as tie
 

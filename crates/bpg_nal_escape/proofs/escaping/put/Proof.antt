@@ -7,8 +7,8 @@ use lib.ListN.{length, take, drop, length-append}
 use borrow.Author.Needs.{needs}
 use Rattle.bpg_codec.specs.Buffer.{written}
 use Rattle.bpg_nal_units.specs.Search.{offsetFrom}
-use Rattle.bpg_nal_escape.specs.Emulation.{escape, startsPattern}
-use Rattle.bpg_nal_escape.proofs.OffsetLaws.{room, es-rest, es-open, es-on, es-count-on}
+use Rattle.bpg_nal_emulation.specs.Emulation.{escape, startsPattern}
+use Rattle.bpg_nal_emulation.proofs.OffsetLaws.{room, es-rest, es-open, es-on, es-count-on}
 use Rattle.bpg_nal_escape.proofs.BufferLaws.{filled, Filling, begun, length-filling, fits, filling-more, filling-last}
 use Rattle.bpg_nal_escape.proofs.escaping.put.Statement.{statement}
 use Rattle.bpg_nal_escape.proofs.escaping.put.Tie as tie

@@ -8,9 +8,9 @@ use lib.ListN.{length, drop}
 use borrow.Author.Needs.{needs}
 use Rattle.bpg_codec.proofs.Select.{select-true, select-false}
 use Rattle.bpg_nal_escape.specs.declared.rules.Checked.{Checked}
-use Rattle.bpg_nal_escape.specs.Emulation.{unescape, keepsRules}
+use Rattle.bpg_nal_emulation.specs.Emulation.{unescape, keepsRules}
 use Rattle.bpg_nal_escape.specs.Checks.{checkOf}
-use Rattle.bpg_nal_escape.proofs.OffsetLaws.{room, keeps-last, keeps-not-mark, keeps-on, keeps-bad, un-count-last, un-count-on}
+use Rattle.bpg_nal_emulation.proofs.OffsetLaws.{room, keeps-last, keeps-not-mark, keeps-on, keeps-bad, un-count-last, un-count-on}
 use Rattle.bpg_nal_escape.proofs.rules.check.Statement.{statement}
 use Rattle.bpg_nal_escape.proofs.rules.check.Tie as tie
 

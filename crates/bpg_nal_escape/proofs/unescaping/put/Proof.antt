@@ -9,8 +9,8 @@ use borrow.Author.Needs.{needs}
 use Rattle.bpg_codec.specs.Buffer.{written, writtenEnd}
 use Rattle.bpg_codec.proofs.Buffer.{stored}
 use Rattle.bpg_nal_units.specs.Search.{offsetFrom}
-use Rattle.bpg_nal_escape.specs.Emulation.{unescape, startsPattern, keepsRules}
-use Rattle.bpg_nal_escape.proofs.OffsetLaws.{room, un-rest, un-some, un-on, un-count-on, kept-mark}
+use Rattle.bpg_nal_emulation.specs.Emulation.{unescape, startsPattern, keepsRules}
+use Rattle.bpg_nal_emulation.proofs.OffsetLaws.{room, un-rest, un-some, un-on, un-count-on, kept-mark}
 use Rattle.bpg_nal_escape.proofs.BufferLaws.{filled, Filling, begun, length-filling, fits, filling-more, filling-last}
 use Rattle.bpg_nal_escape.proofs.unescaping.put.Statement.{statement}
 use Rattle.bpg_nal_escape.proofs.unescaping.put.Tie as tie

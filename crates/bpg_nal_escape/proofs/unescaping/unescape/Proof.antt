@@ -6,7 +6,7 @@ use native.Mathlib.Omega.{arith}
 use lib.ListN.{length}
 use borrow.Author.Needs.{needs}
 use borrow.Author.Tests.{not-true, not-false}
-use Rattle.bpg_nal_escape.specs.Emulation.{unescape, keepsRules}
+use Rattle.bpg_nal_emulation.specs.Emulation.{unescape, keepsRules}
 use Rattle.bpg_nal_escape.proofs.CallLaws.{un-broken, un-judged, un-small, un-done}
 use Rattle.bpg_nal_escape.proofs.unescaping.unescape.Statement.{statement}
 use Rattle.bpg_nal_escape.proofs.unescaping.unescape.Tie as tie

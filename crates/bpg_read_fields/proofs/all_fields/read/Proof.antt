@@ -8,7 +8,7 @@ use Rattle.bpg_codec.specs.Outcome.{ok}
 use Rattle.bpg_codec.specs.Codec.{decodeAt}
 use Rattle.bpg_bits.specs.BitNumbers.{regionBits}
 use Rattle.bpg_format.specs.FileCodec.{oneBit, optional, SizeFields, sizeFields, PcmFields, pcmFields, noPcm}
-use Rattle.bpg_read_fields.specs.Fields.{flagOutcome, sizesOutcome, pcmOutcome}
+use Rattle.bpg_read_groups.specs.Fields.{flagOutcome, sizesOutcome, pcmOutcome}
 use Rattle.bpg_read_fields.proofs.AllFieldLaws.{fields-at, depths-small}
 use borrow.Author.Needs.{needs}
 use Rattle.bpg_read_fields.proofs.all_fields.read.Statement.{statement}

@@ -9,7 +9,7 @@ use Rattle.bpg_codec.specs.Codec.{decodeAt}
 use Rattle.bpg_bits.specs.BitNumbers.{regionBits}
 use Rattle.bpg_format.specs.declared.record.Header.{Header}
 use Rattle.bpg_format.specs.FileCodec.{oneBit, optional, spsFields, noSps}
-use Rattle.bpg_read_fields.specs.Fields.{flagOutcome, spsOutcome, nineOutcome}
+use Rattle.bpg_read_groups.specs.Fields.{flagOutcome, spsOutcome, nineOutcome}
 use Rattle.bpg_read_fields.proofs.AllFieldLaws.{rest-at, seven-small}
 use borrow.Author.Needs.{needs}
 use Rattle.bpg_read_fields.proofs.all_fields.read_rest.Statement.{statement}

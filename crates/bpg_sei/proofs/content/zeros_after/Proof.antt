@@ -1,6 +1,6 @@
 -- `content::zeros_after` meets its contract.
 use mathlib.Core.Path.{sym}
-use Rattle.bpg_nal_escape.proofs.WalkLaws.{zeros-byte, zeros-first, zeros-more}
+use Rattle.bpg_nal_emulation.proofs.WalkLaws.{zeros-byte, zeros-first, zeros-more}
 use Rattle.bpg_sei.proofs.content.zeros_after.Statement.{statement}
 use Rattle.bpg_sei.proofs.content.zeros_after.Tie as tie
 

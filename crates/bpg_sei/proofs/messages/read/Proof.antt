@@ -5,7 +5,7 @@ use native.Mathlib.Omega.{arith}
 use lib.ListN.{length}
 use borrow.Author.Needs.{needs}
 use borrow.Author.Tests.{not-true, not-false}
-use Rattle.bpg_nal_escape.specs.Emulation.{contentAt}
+use Rattle.bpg_nal_emulation.specs.Emulation.{contentAt}
 use Rattle.bpg_sei.specs.Messages.{durationsIn}
 use Rattle.bpg_sei.specs.Steps.{Onward}
 use Rattle.bpg_sei.proofs.AnswerLaws.{Hearing, hearing, all-cut, all-heard, more-heard}

@@ -27,7 +27,7 @@ headers-status-requires c κs =
     let e = c .before .before in
     let p = e .before in
     let s = p .before .before in
-    (s .pre .0, depth-fits _ (s .args .source .now) (sym (p .picture-status .ensures (s .args .source .now)) ∙ e .if1 .left))
+    depth-fits _ (s .args .source .now) (sym (p .picture-status .ensures (s .args .source .now)) ∙ e .if1 .left)
 
 returns-3 : tie.Need-returns-3
 returns-3 c =

@@ -7,7 +7,7 @@ use Prim.Native.Nat.{ℕ}
 use Rattle.bpg_format.specs.declared.record.Range.{Range}
 use Rattle.bpg_format.specs.Read.{readAnimation}
 use Rattle.bpg_format.specs.Records.{bytesIn}
-use Rattle.bpg_read_entries.specs.Animations.{animationAnswer}
+use Rattle.bpg_read_animation.specs.Animations.{animationAnswer}
 use borrow.Author.Needs.{needs}
 use Rattle.bpg_write_check.proofs.entries.control_status.Statement.{statement}
 use Rattle.bpg_write_check.proofs.entries.control_status.Tie as tie

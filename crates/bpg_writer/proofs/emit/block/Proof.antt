@@ -7,7 +7,7 @@ use lib.ListN.{length, length-append}
 use borrow.Author.Tests.{not-true, not-false}
 use Rattle.bpg_codec.proofs.Select.{select-true}
 use Rattle.bpg_ue7.specs.Ue7.{ue7Bytes}
-use Rattle.bpg_writer.specs.FileParts.{entriesPart}
+use Rattle.bpg_write_plan.specs.FileParts.{entriesPart}
 use Rattle.bpg_writer.proofs.PutLaws.{Put, put-end, put-absent, put-present, put-then, put-same}
 use borrow.Author.Needs.{needs}
 use Rattle.bpg_writer.proofs.emit.block.Statement.{statement}

@@ -10,7 +10,7 @@ use Rattle.bpg_format.specs.Zero.{zeroEntry}
 use Rattle.bpg_format.specs.Syntax.{extensionBytes, blockBytes}
 use Rattle.bpg_format.specs.Records.{extensionOf}
 use Rattle.bpg_format.proofs.Typed.{entries-count}
-use Rattle.bpg_writer.specs.FileParts.{RangeInside}
+use Rattle.bpg_write_plan.specs.FileParts.{RangeInside}
 use Rattle.bpg_writer.proofs.PutLaws.{Put, put-end, put-none, put-then, put-same}
 use Rattle.bpg_writer.proofs.PartLaws.{bytes-next, bytes-grow, nth-used}
 use Rattle.bpg_writer.proofs.emit.entries.Statement.{statement}

@@ -6,7 +6,7 @@ use Prim.Native.Nat.{ℕ, _+_, _-_, _≤_}
 use native.Mathlib.Omega.{arith}
 use lib.ListN.{length, take, drop, length-append}
 use Rattle.bpg_format.specs.Records.{bytesIn}
-use Rattle.bpg_writer.specs.FileParts.{headerPart}
+use Rattle.bpg_write_plan.specs.FileParts.{headerPart}
 use Rattle.bpg_writer.proofs.PutLaws.{put-end, put-same, put-then}
 use borrow.Author.Needs.{needs}
 use Rattle.bpg_writer.proofs.emit.headers_and_data.Statement.{statement}

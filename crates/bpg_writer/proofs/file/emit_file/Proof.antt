@@ -1,13 +1,14 @@
 -- `file::emit_file` meets its contract.
-use mathlib.Core.Path.{_≡_, ap}
+use mathlib.Core.Path.{_≡_, ap, _∙_}
 use mathlib.Core.Bool.{Bool, true, false, _||_}
 use mathlib.Core.List.{List, _++_}
 use Prim.Native.Nat.{ℕ, _+_, _≤_}
 use native.Mathlib.Omega.{arith}
 use lib.ListN.{length, length-append}
 use Rattle.bpg_codec.specs.Select.{select}
+use Rattle.bpg_codec.specs.Buffer.{written}
 use Rattle.bpg_format.specs.Limits.{maxFile}
-use Rattle.bpg_writer.specs.FileParts.{headPart, blockPart, headersAndDataPart}
+use Rattle.bpg_write_plan.specs.FileParts.{headPart, blockPart, headersAndDataPart}
 use Rattle.bpg_writer.proofs.PutLaws.{Put, put-end, put-same, put-then}
 use borrow.Author.Needs.{needs}
 use Rattle.bpg_writer.proofs.file.emit_file.Statement.{statement}
@@ -16,21 +17,21 @@ use Rattle.bpg_writer.proofs.file.emit_file.Tie as tie
 -- the parts, and that they fit
 module _ (s : tie.Start) where
   abbrev head-part : List ℕ
-  head-part = headPart (s .args .«record») (select (s .args .«record» .«explicit_length») (s .args .layout .«headers_and_data») 0)
+  head-part = headPart (s .args .«record») (select (s .args .«record» .«explicit_length») (s .args .plan .layout .«headers_and_data») 0)
 
   abbrev block-part : List ℕ
   block-part = blockPart (s .args .«record») (s .args .source .now)
 
   abbrev last-part : List ℕ
-  last-part = headersAndDataPart (s .args .«record» .«alpha1_flag» || s .args .«record» .«alpha2_flag») (s .args .alpha) (s .args .color) (s .args .source .now) (s .args .«record» .«data»)
+  last-part = headersAndDataPart (s .args .«record» .«alpha1_flag» || s .args .«record» .«alpha2_flag») (s .args .plan .alpha) (s .args .plan .color) (s .args .source .now) (s .args .«record» .«data»)
 
   fits : length head-part + (length block-part + length last-part) ≤ length (s .args .out .now)
-  fits = omega (arith, s .pre .1 .1 .1 .1 .1 .1 .1 .1 .1 .1, length-append head-part (block-part ++ last-part), length-append block-part last-part)
+  fits = omega (arith, s .pre .1, ap length (s .pre .0 .parts-are), length-append head-part (block-part ++ last-part), length-append block-part last-part)
 
   -- the data length is one of a file
-  coded : (t : Bool) → select t (s .args .layout .«headers_and_data») 0 ≤ maxFile
+  coded : (t : Bool) → select t (s .args .plan .layout .«headers_and_data») 0 ≤ maxFile
   unfolding select
-  coded true = s .pre .1 .1 .1 .1 .1 .1 .1 .1 .1 .0 .1
+  coded true = s .pre .0 .parts-most .1
   coded false = omega arith
 
 -- the data length was chosen
@@ -58,10 +59,10 @@ module _ (c : tie.After-head) where
 -- and whether there is a plane of alpha is known
 last-is : (c : tie.After-has-alpha)
     → let s = c .before .before .before .before .before .before .before .before .before .before .before .before .before in
-    headersAndDataPart (c .has-alpha .result) (s .args .alpha) (s .args .color) (s .args .source .now) (s .args .«record» .«data») ≡ last-part s
+    headersAndDataPart (c .has-alpha .result) (s .args .plan .alpha) (s .args .plan .color) (s .args .source .now) (s .args .«record» .«data») ≡ last-part s
 last-is c =
     let s = c .before .before .before .before .before .before .before .before .before .before .before .before .before in
-    ap (λ (t : Bool). headersAndDataPart t (s .args .alpha) (s .args .color) (s .args .source .now) (s .args .«record» .«data»)) (c .has-alpha .ensures)
+    ap (λ (t : Bool). headersAndDataPart t (s .args .plan .alpha) (s .args .plan .color) (s .args .source .now) (s .args .«record» .«data»)) (c .has-alpha .ensures)
 
 cast-head : tie.Need-cast-head
 cast-head c = omega (arith, length-small (c .before))
@@ -70,16 +71,17 @@ head-requires : tie.Need-head-requires
 head-requires c κs =
     let d = c .before in
     let s = d .before .before .before in
-    (s .pre .0, (s .pre .1 .0, (s .pre .1 .1 .0, omega (arith, fits s, ap length (head-is d)))))
+    let k = s .pre .0 in
+    (k .format, (k .depth, (k .space, omega (arith, fits s, ap length (head-is d)))))
 
 block-requires : tie.Need-block-requires
 block-requires c κs =
     let h = c .before .before .before .before in
     let d = h .before .before in
     let s = d .before .before .before in
-    let p = s .pre .1 .1 .1 in
+    let k = s .pre .0 in
     let e = head-end h in
-    (p .0, (p .1 .0, (p .1 .1 .1 .1 .1 .0, omega (arith, fits s, e .0, e .1))))
+    (k .few, (k .payloads, (k .block-is, omega (arith, fits s, e .0, e .1))))
 
 headers-and-data-requires : tie.Need-headers-and-data-requires
 headers-and-data-requires c κs =
@@ -87,10 +89,10 @@ headers-and-data-requires c κs =
     let b = a .before .before .before in
     let h = b .before .before .before .before .before in
     let s = h .before .before .before .before .before in
-    let p = s .pre .1 .1 .1 .1 .1 in
+    let k = s .pre .0 in
     let e = head-end h in
     let f = put-end (h .head .last .0) (h .head .result .0) (block-part s) (omega (arith, fits s, e .0, e .1)) (b .block .ensures) in
-    (p .1 .0, (p .1 .1 .0, (p .0, omega (arith, fits s, e .0, e .1, f .0, f .1, ap length (last-is a)))))
+    (k .alpha-bits, (k .color-bits, (k .data-inside, omega (arith, fits s, e .0, e .1, f .0, f .1, ap length (last-is a)))))
 
 returns : tie.Need-returns
 returns c =
@@ -105,7 +107,7 @@ returns c =
     let put =
     put-then (s .args .out .now) 0 (head-part s) after all (head-put h) λ f.
     put-then (h .head .last .0) _ (block-part s) (last-part s) f (b .block .ensures) λ _. put-same (b .block .last .0) _ (last-is a) (w .headers-and-data .ensures) in
-    put .0
+    put .0 ∙ ap (written (s .args .out .now) 0) (s .pre .0 .parts-are)
 
 pub emit-file-spec : {M : Type 1} → statement M
 emit-file-spec =

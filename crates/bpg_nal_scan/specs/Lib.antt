@@ -1,0 +1,2 @@
+-- What the scan of a unit answers.
+pub mod Scans

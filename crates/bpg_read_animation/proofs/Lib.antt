@@ -1,0 +1,2 @@
+-- Laws of the reader of the animation control.
+pub mod AnimationLaws

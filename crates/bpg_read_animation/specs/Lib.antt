@@ -1,0 +1,2 @@
+-- What the reader of the animation control answers.
+pub mod Animations

@@ -1,0 +1,2 @@
+// The animation control, the payload of tag 5.
+pub mod animation;

@@ -1,0 +1,2 @@
+-- Laws of the readers of groups of fields.
+pub mod FieldLaws

@@ -1,0 +1,2 @@
+-- What the readers of groups of fields answer.
+pub mod Fields

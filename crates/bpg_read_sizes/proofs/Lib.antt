@@ -1,0 +1,2 @@
+-- Laws of the reader of the block sizes.
+pub mod SizeLaws

@@ -1,0 +1,2 @@
+-- What the reader of the block sizes goes by.
+pub mod Sizes

@@ -1,0 +1,2 @@
+// The block sizes of a HEVC header, read from its bits.
+pub mod sizes;

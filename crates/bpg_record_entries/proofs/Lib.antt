@@ -1,0 +1,2 @@
+-- Laws of the entries of a record.
+pub mod UsedLaws

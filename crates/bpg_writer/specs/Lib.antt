@@ -1,3 +1,0 @@
--- What the parts of the writer answer.
-pub mod Layouts
-pub mod FileParts
