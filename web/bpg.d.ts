@@ -124,8 +124,14 @@ export class Bpg {
   /** The file of a record, whose ranges are in `source`. */
   write(record: BpgRecord, source: Uint8Array, out?: Uint8Array): Uint8Array;
 
+  /** How many bytes the file of a record has. */
+  writeSize(record: BpgRecord, source: Uint8Array): number;
+
   /** The canonical form of a file: never longer than it, and equal for two files exactly when they show the same picture. */
   canonicalize(file: Uint8Array, out?: Uint8Array): Uint8Array;
+
+  /** How many bytes the canonical form of a file has. */
+  canonicalSize(file: Uint8Array): number;
 
   /** How many frames a file has. */
   frameCount(file: Uint8Array): number;

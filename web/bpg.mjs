@@ -110,14 +110,19 @@ export class Bpg {
 
   /** The file of a record, shaped as `read` gives it, whose ranges are in `source`: a new array, or the start of `out`. */
   write(record, source, out) {
-    checkBytes(source, 'the source');
     if (out !== undefined) checkBytes(out, 'the buffer');
+    const numbers = this.#putRecord(record, source);
     const memory = this.#memory;
-    const numbers = BigInt(put(record, memory.words, memory.list / 4));
-    const length = Math.min(out?.length ?? MAX_FILE, MAX_FILE);
-    const at = this.#put(source, length);
+    const length = out === undefined ? this.#sizeOf(numbers, source) : Math.min(out.length, MAX_FILE);
+    const at = behind(memory.room, source.length);
+    memory.hold(at + length);
     const status = this.#calls.bpg_write(memory.list, numbers, memory.room, BigInt(source.length), at, BigInt(length), memory.results);
     return this.#written(status & 0xff, 0, at, out);
+  }
+
+  /** How many bytes the file of a record has. */
+  writeSize(record, source) {
+    return this.#sizeOf(this.#putRecord(record, source), source);
   }
 
   /** The canonical form of a file: a new array, or the start of `out`. It is never longer than the file, and two files show the same picture
@@ -130,6 +135,16 @@ export class Bpg {
     const { room, results } = this.#memory;
     const status = this.#calls.bpg_canonicalize(room, BigInt(bytes.length), at, BigInt(length), results, results + 8);
     return this.#written(status & 0xff, this.#memory.result(1), at, out);
+  }
+
+  /** How many bytes the canonical form of a file has. */
+  canonicalSize(file) {
+    const bytes = fileBytes(file);
+    this.#put(bytes);
+    const { room, results } = this.#memory;
+    const status = this.#calls.bpg_canonical_size(room, BigInt(bytes.length), results, results + 8);
+    this.#accepted(status & 0xff, this.#memory.result(1));
+    return this.#memory.result(0);
   }
 
   /** How many frames a file has. */
@@ -191,6 +206,21 @@ export class Bpg {
     this.#put(bytes);
     const { room, list, results } = this.#memory;
     return this.#calls.bpg_read(room, BigInt(bytes.length), list, LIST_LENGTH, results) & 0xff;
+  }
+
+  // Puts a record's list and its source into the memory, and answers how many numbers the list has.
+  #putRecord(record, source) {
+    checkBytes(source, 'the source');
+    const numbers = put(record, this.#memory.words, this.#memory.list / 4);
+    this.#put(source);
+    return BigInt(numbers);
+  }
+
+  #sizeOf(numbers, source) {
+    const { list, room, results } = this.#memory;
+    const status = this.#calls.bpg_write_size(list, numbers, room, BigInt(source.length), results);
+    this.#accepted(status & 0xff, 0);
+    return this.#memory.result(0);
   }
 
   #countFrames(bytes) {

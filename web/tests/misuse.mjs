@@ -20,7 +20,7 @@ const large = new Uint8Array(MAX_FILE).fill(0x55);
 large.set([...A, 0x80]);
 
 const refusal = (status, offset) => (error) => error instanceof BpgRefusal && error.status === status && error.offset === offset;
-const onFiles = ['read', 'entries', 'data', 'canonicalize', 'frameCount', 'frames', 'checkThumbnails'];
+const onFiles = ['read', 'entries', 'data', 'canonicalize', 'canonicalSize', 'frameCount', 'frames', 'checkThumbnails'];
 
 const tests = {
   'the examples read as they should'() {
@@ -57,6 +57,7 @@ const tests = {
     for (const wrong of [undefined, null, [], 'BPG', 5, A.buffer, new DataView(A.buffer), new Int8Array(A), new Uint16Array(8), {}]) {
       for (const name of onFiles) assert.throws(() => bpg[name](wrong), TypeError, `${name} of ${wrong}`);
       assert.throws(() => bpg.write(bpg.read(A), wrong), TypeError);
+      assert.throws(() => bpg.writeSize(bpg.read(A), wrong), TypeError);
       assert.throws(() => bpg.batch(wrong, []), TypeError);
       assert.throws(() => bpg.escape(wrong), TypeError);
       assert.throws(() => bpg.unescape(wrong), TypeError);
@@ -143,13 +144,14 @@ const tests = {
     const form = bpg.canonicalize(large);
     assert.ok(Buffer.from(form.buffer).equals(large));
     assert.equal(bpg.write(bpg.read(large), large).length, MAX_FILE);
+    assert.deepEqual([bpg.writeSize(bpg.read(large), large), bpg.canonicalSize(large)], [MAX_FILE, MAX_FILE]);
   },
 
   'a file of 17 MiB is refused, and takes no more memory than the limit'() {
     const before = instance.exports.memory.buffer.byteLength;
     const long = new Uint8Array(17 * 2 ** 20);
     long.set(A);
-    for (const name of ['read', 'canonicalize', 'frames', 'frameCount', 'checkThumbnails']) assert.throws(() => bpg[name](long), refusal(1, 0));
+    for (const name of ['read', 'canonicalize', 'canonicalSize', 'frames', 'frameCount', 'checkThumbnails']) assert.throws(() => bpg[name](long), refusal(1, 0));
     assert.equal(bpg.payload(long, 0).length + bpg.data(long).length + bpg.entries(long).length, 0);
     assert.ok(instance.exports.memory.buffer.byteLength - before <= 65536);
     assert.deepEqual(bpg.batch(long, [16, long.length - 16]).map((file) => file?.status), [undefined, 1]);

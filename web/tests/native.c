@@ -6,6 +6,9 @@
 #include <stdio.h>
 #include <stdlib.h>
 
+uint8_t bpg_write_size(const uint64_t *numbers, size_t numbers_len, const uint8_t *source, size_t source_len, size_t *count);
+uint8_t bpg_canonical_size(const uint8_t *file, size_t file_len, size_t *count, size_t *offset);
+
 struct list {
     void *at;
     size_t count, size;
@@ -117,9 +120,22 @@ static void escape(void) {
     put_status(), put_list(b), put_first();
 }
 
+static void write_size(void) {
+    a = get_list(8), b = get_list(1);
+    status = bpg_write_size(a.at, a.count, b.at, b.count, &first);
+    put_status(), put_first();
+}
+
+static void canonical_size(void) {
+    a = get_list(1);
+    status = bpg_canonical_size(a.at, a.count, &first, &second);
+    put_status(), put_both();
+}
+
 /* In the order of SIGNATURES in raw.mjs. */
 static void (*const calls[])(void) = {
-    read_file, entry, write_file, canonicalize, frames, frame_count, check_thumbnails, batch, unescape, escape,
+    read_file, entry, write_file, canonicalize, frames, frame_count, check_thumbnails, batch, unescape, escape, write_size,
+    canonical_size,
 };
 
 int main(void) {

@@ -80,11 +80,16 @@ function callsOn(bytes) {
   add('bpg_read', bytes, filled(BigUint64Array, random.once(20) ? random.below(130) : 130, 0xa5a5a5a5a5a5a5a5n));
   add('bpg_entry', bytes, BigInt(random.pick([0, 1, 2, 15, 16, 2 ** 40])));
   add('bpg_canonicalize', bytes, filled(Uint8Array, near(bytes.length), 0xa5));
+  add('bpg_canonical_size', bytes);
   add('bpg_frames', bytes, filled(Uint16Array, random.below(12), 9999));
   add('bpg_frame_count', bytes);
   add('bpg_check_thumbnails', bytes);
   const reading = raw.call('bpg_read', bytes, filled(BigUint64Array, 130, 0n));
-  if (reading.status === 0) add('bpg_write', spoiltNumbers(reading.lists[0]), bytes, filled(Uint8Array, near(bytes.length), 0xa5));
+  if (reading.status === 0) {
+    const numbers = spoiltNumbers(reading.lists[0]);
+    add('bpg_write', numbers, bytes, filled(Uint8Array, near(bytes.length), 0xa5));
+    add('bpg_write_size', numbers, bytes);
+  }
   const slice = bytes.slice(random.below(bytes.length + 1));
   add(random.pick(['bpg_unescape', 'bpg_escape']), slice, filled(Uint8Array, near(slice.length + 4), 0xa5));
   return cases;

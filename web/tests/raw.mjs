@@ -20,6 +20,8 @@ export const SIGNATURES = {
   bpg_batch: [list(1), list(4), outList(1), outList(4)],
   bpg_unescape: [list(1), outList(1), result(8)],
   bpg_escape: [list(1), outList(1), result(8)],
+  bpg_write_size: [list(8), list(1), result(8)],
+  bpg_canonical_size: [list(1), result(8), result(8)],
 };
 
 export class Raw {

@@ -69,6 +69,7 @@ function read(line) {
 function canonical(line) {
   const [file, form] = line.split(' ').map(bytes);
   same('canonicalize', hex(bpg.canonicalize(file)), hex(form));
+  same('canonicalSize', bpg.canonicalSize(file), form.length);
   const roomy = raw.call('bpg_canonicalize', file, filled(file.length));
   same('canonicalize', `${roomy.status} ${roomy.results} ${hex(roomy.lists[0])}`, `0 ${form.length},0 ${hex(form)}${'a5'.repeat(file.length - form.length)}`);
   const tight = raw.call('bpg_canonicalize', file, filled(form.length - 1));
@@ -104,6 +105,8 @@ function write(line) {
   if (record.entries.slice(record.entry_count).some((entry) => entry.some((number) => number !== 0))) return;
   const out = filled(room_size);
   const got = answer(() => bpg.write(recordFrom(record), bytes(source), out), (written) => `0 ${written.length}`);
+  const size = answer(() => bpg.writeSize(recordFrom(record), bytes(source)), (length) => (length > room_size ? '20 at 0' : `0 ${length}`));
+  same('writeSize', size, got);
   same('write', `${got} ${hex(out)}`, `${status === 0 ? `0 ${count}` : `${status} at 0`} ${room}`);
 }
 
