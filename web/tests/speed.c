@@ -13,9 +13,10 @@ enum { LIMIT = 16777216, READS = 20000, NUMBERS = 1024 };
 static uint8_t file[LIMIT], out[LIMIT];
 static uint64_t numbers[NUMBERS];
 
+/* Processor time, as in speed.mjs: what else the machine does counts less. */
 static double now(void) {
     struct timespec time;
-    clock_gettime(CLOCK_MONOTONIC, &time);
+    clock_gettime(CLOCK_PROCESS_CPUTIME_ID, &time);
     return time.tv_sec * 1e9 + time.tv_nsec;
 }
 

@@ -1,4 +1,4 @@
-// How fast the module is in node against the native library: each in turns with the other, the least of several. See ./web/bench.
+// How fast the module is in node against the native library: the least of several turns of each. See ./web/bench.
 import { execFileSync } from 'node:child_process';
 import { mkdirSync, readFileSync, writeFileSync } from 'node:fs';
 import { fileURLToPath } from 'node:url';
@@ -13,16 +13,23 @@ const native = (call, file, turns) => Number(execFileSync(`${kept}/speed`, [call
 
 const { exports } = new WebAssembly.Instance(new WebAssembly.Module(readFileSync(path('../bpg.wasm'))), {});
 const bpg = new Bpg({ exports });
-const ROUNDS = 60;
+const VISITS = 8;
+const ROUNDS = 10;
 const READS = 20000;
+
+/** Processor time of all threads, those of the garbage collector too, in nanoseconds: what else the machine does counts less. */
+function now() {
+  const { user, system } = process.cpuUsage();
+  return 1000 * (user + system);
+}
 
 /** The least of several turns, in nanoseconds a call. */
 function least(calls, turn) {
   let best = Infinity;
   for (let round = 0; round < ROUNDS; round++) {
-    const start = process.hrtime.bigint();
+    const start = now();
     for (let k = 0; k < calls; k++) turn();
-    best = Math.min(best, Number(process.hrtime.bigint() - start) / calls);
+    best = Math.min(best, (now() - start) / calls);
   }
   return best;
 }
@@ -54,21 +61,28 @@ function canonicalCall() {
   if ((exports.bpg_canonicalize(at, lengthOf(large), out, lengthOf(large), results, results + 8) & 0xff) !== 0) throw new Error('refused');
 }
 
-const rows = [];
-const show = (what, time, against, limit) =>
-  rows.push([what, time >= 1e5 ? `${(time / 1e6).toFixed(2)} ms` : `${time.toFixed(0)} ns`, against ? `${(time / against).toFixed(2)} of native` : '', limit]);
-
-const nativeRead = Math.min(native('read', `${kept}/small.bpg`, ROUNDS), native('read', `${kept}/small.bpg`, ROUNDS));
-show('native bpg_read, 3 entries', nativeRead, 0, '');
-show('bpg_read in the module, the file copied in', least(READS, numbersCall), nativeRead, 'at most 3');
-show('bpg.read, to an object', least(READS, () => bpg.read(small)), nativeRead, 'at most 2000 ns');
-
-memory = new Uint8Array(exports.memory.buffer);
-memory.set(large, at);
 const lent = new Uint8Array(MAX_FILE).fill(1);
-const nativeCanonical = Math.min(native('canonicalize', `${kept}/large.bpg`, ROUNDS), native('canonicalize', `${kept}/large.bpg`, ROUNDS));
-show('native bpg_canonicalize, 16 MiB', nativeCanonical, 0, '');
-show('bpg_canonicalize in the module', least(1, canonicalCall), nativeCanonical, 'at most 1.5');
-show('bpg.canonicalize into a lent array', least(1, () => bpg.canonicalize(large, lent)), nativeCanonical, 'at most 6');
-show('bpg.canonicalize to a new array', least(1, () => bpg.canonicalize(large)), nativeCanonical, 'at most 6');
-for (const [what, time, against, limit] of rows) console.log(`${what.padEnd(44)} ${time.padStart(9)}  ${against.padEnd(16)} ${limit}`);
+const ROWS = {
+  'native bpg_read, 3 entries': () => native('read', `${kept}/small.bpg`, ROUNDS),
+  'bpg_read in the module, the file copied in': () => least(READS, numbersCall),
+  'bpg.read, to an object': () => least(READS, () => bpg.read(small)),
+  'native bpg_canonicalize, 16 MiB': () => native('canonicalize', `${kept}/large.bpg`, ROUNDS),
+  'bpg_canonicalize in the module': () => {
+    memory = new Uint8Array(exports.memory.buffer);
+    memory.set(large, at);
+    return least(1, canonicalCall);
+  },
+  'bpg.canonicalize into a lent array': () => least(1, () => bpg.canonicalize(large, lent)),
+  'bpg.canonicalize to a new array': () => least(1, () => bpg.canonicalize(large)),
+};
+const LIMITS = ['', 'at most 3', 'at most 2000 ns', '', 'at most 1.5', 'at most 6', 'at most 6'];
+
+// All rows in turn, several times, so that what else the machine does meets each of them alike.
+const names = Object.keys(ROWS);
+const times = names.map(() => Infinity);
+for (let visit = 0; visit < VISITS; visit++) names.forEach((name, k) => (times[k] = Math.min(times[k], ROWS[name]())));
+const shown = (time) => (time >= 1e5 ? `${(time / 1e6).toFixed(2)} ms` : `${time.toFixed(0)} ns`);
+names.forEach((name, k) => {
+  const against = name.startsWith('native') ? '' : `${(times[k] / times[k < 3 ? 0 : 3]).toFixed(2)} of native`;
+  console.log(`${name.padEnd(44)} ${shown(times[k]).padStart(9)}  ${against.padEnd(16)} ${LIMITS[k]}`);
+});
