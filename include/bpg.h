@@ -1,15 +1,19 @@
-/* Reading, writing and canonicalizing BPG files: the library libbpg_export.a, which `rt staticlib bpg_export` makes.
+/* Reading, writing and canonicalizing BPG 0.9.5 files.
  *
- * What each function answers is proved in crates/bpg_export, for every input. The proof does not cover
+ * The functions without a body here are those of the proved library (libbpg, made from crates/bpg_export): what each one answers is
+ * proved, for every input. The proof does not cover
  *   - a pointer that is null or not aligned (with a length of 0 pass any valid address), or memory that is shorter than its length says;
  *   - memory that is written and overlaps anything else that is passed: out, or a list (numbers, durations), with file, source, unit, bytes
  *     or numbers; the two lists of bpg_batch with each other, buffer or lengths; the results (*offset, *count, *tag, *start, *length) with
  *     each other or with these;
  *   - memory that another thread changes during a call;
- *   - this header: nothing checks it against the library's source.
+ *   - this header itself: its declarations, and the inline functions, which are plain C over the proved ones. c/test compiles it as C and
+ *     as C++ and runs all of it.
  *
- * A call answers a status: 0, or a refusal number (enum bpg_status). A refusal leaves the buffer, or the list, as it was.
- * Every result is always written. */
+ * The library keeps nothing between calls, so that calls may run at the same time.
+ *
+ * A call answers a status: BPG_OK, or the number of a refusal (enum bpg_status; bpg_status_text has it in words). A refusal leaves the
+ * buffer, or the list, as it was. Every result is always written. */
 #ifndef BPG_H
 #define BPG_H
 
@@ -21,125 +25,223 @@
 extern "C" {
 #endif
 
-/* How many numbers a record has, and a reading: a record, then its coded width and height. */
-#define BPG_RECORD_NUMBERS 115
-#define BPG_READING_NUMBERS 117
+#define BPG_VERSION_MAJOR 0
+#define BPG_VERSION_MINOR 2
+#define BPG_VERSION_PATCH 0
+#define BPG_VERSION "0.2.0"
 
-/* Where each number stands in the list. A flag is 1 or 0. Pixel format, bit depth, color space, the PCM bit depths and the seven extension
- * bits hold at most 255, the loop count and the frame period at most 65535, every other of a record at most 2^32 - 1. */
-enum bpg_number {
-    BPG_PIXEL_FORMAT = 0,
-    BPG_ALPHA1_FLAG = 1,
-    BPG_BIT_DEPTH_MINUS_8 = 2,
-    BPG_COLOR_SPACE = 3,
-    BPG_EXTENSION_PRESENT_FLAG = 4,
-    BPG_ALPHA2_FLAG = 5,
-    BPG_LIMITED_RANGE_FLAG = 6,
-    BPG_ANIMATION_FLAG = 7,
-    BPG_PICTURE_WIDTH = 8,
-    BPG_PICTURE_HEIGHT = 9,
-    BPG_EXPLICIT_LENGTH = 10, /* flag: the data length is written out, and not as 0 for "to the end of the file" */
-    BPG_ENTRY_COUNT = 11,
-    BPG_ENTRIES = 12, /* 16 entries; entry k at BPG_ENTRIES + k * BPG_ENTRY_NUMBERS */
-    BPG_LOOP_COUNT = 60,
-    BPG_FRAME_PERIOD_NUM = 61,
-    BPG_FRAME_PERIOD_DEN = 62,
-    BPG_ALPHA_HEADER = 63, /* the alpha (or W) plane's; zeros where there is none */
-    BPG_COLOR_HEADER = 88,
-    BPG_DATA_START = 113,
-    BPG_DATA_LENGTH = 114,
-    BPG_CODED_WIDTH = 115, /* of a reading only */
-    BPG_CODED_HEIGHT = 116
+/* The most bytes, and the most extension entries, that a file may have. */
+#define BPG_MAX_FILE 16777216
+#define BPG_MAX_ENTRIES 16
+
+/* The tags of extension entries that BPG defines; an entry may have any other. */
+enum bpg_tag {
+    BPG_TAG_EXIF = 1,
+    BPG_TAG_ICC_PROFILE = 2,
+    BPG_TAG_XMP = 3,
+    BPG_TAG_THUMBNAIL = 4,        /* again a BPG file */
+    BPG_TAG_ANIMATION_CONTROL = 5 /* begins with loop_count, frame_period_num and frame_period_den */
 };
 
-/* Within an entry: its tag, and the range of its payload in the file or the source. */
-enum bpg_entry_number {
-    BPG_ENTRY_TAG = 0,
-    BPG_ENTRY_START = 1,
-    BPG_ENTRY_LENGTH = 2,
-    BPG_ENTRY_NUMBERS = 3
+/* Values of pixel_format; the last word is where chroma samples stand. */
+enum bpg_pixel_format {
+    BPG_PIXEL_FORMAT_GRAYSCALE = 0,
+    BPG_PIXEL_FORMAT_420_JPEG = 1,
+    BPG_PIXEL_FORMAT_422_JPEG = 2,
+    BPG_PIXEL_FORMAT_444 = 3,
+    BPG_PIXEL_FORMAT_420_MPEG2 = 4,
+    BPG_PIXEL_FORMAT_422_MPEG2 = 5
 };
 
-/* Within a HEVC header. */
-enum bpg_header_number {
-    BPG_LOG2_MIN_LUMA_CODING_BLOCK_SIZE_MINUS3 = 0,
-    BPG_LOG2_DIFF_MAX_MIN_LUMA_CODING_BLOCK_SIZE = 1,
-    BPG_LOG2_MIN_TRANSFORM_BLOCK_SIZE_MINUS2 = 2,
-    BPG_LOG2_DIFF_MAX_MIN_TRANSFORM_BLOCK_SIZE = 3,
-    BPG_MAX_TRANSFORM_HIERARCHY_DEPTH_INTRA = 4,
-    BPG_SAMPLE_ADAPTIVE_OFFSET_ENABLED_FLAG = 5,
-    BPG_PCM_ENABLED_FLAG = 6,
-    BPG_PCM_SAMPLE_BIT_DEPTH_LUMA_MINUS1 = 7,
-    BPG_PCM_SAMPLE_BIT_DEPTH_CHROMA_MINUS1 = 8,
-    BPG_LOG2_MIN_PCM_LUMA_CODING_BLOCK_SIZE_MINUS3 = 9,
-    BPG_LOG2_DIFF_MAX_MIN_PCM_LUMA_CODING_BLOCK_SIZE = 10,
-    BPG_PCM_LOOP_FILTER_DISABLED_FLAG = 11,
-    BPG_STRONG_INTRA_SMOOTHING_ENABLED_FLAG = 12,
-    BPG_SPS_EXTENSION_PRESENT_FLAG = 13,
-    BPG_SPS_RANGE_EXTENSION_FLAG = 14,
-    BPG_SPS_EXTENSION_7BITS = 15,
-    BPG_TRANSFORM_SKIP_ROTATION_ENABLED_FLAG = 16,
-    BPG_TRANSFORM_SKIP_CONTEXT_ENABLED_FLAG = 17,
-    BPG_IMPLICIT_RDPCM_ENABLED_FLAG = 18,
-    BPG_EXPLICIT_RDPCM_ENABLED_FLAG = 19,
-    BPG_EXTENDED_PRECISION_PROCESSING_FLAG = 20,
-    BPG_INTRA_SMOOTHING_DISABLED_FLAG = 21,
-    BPG_HIGH_PRECISION_OFFSETS_ENABLED_FLAG = 22,
-    BPG_PERSISTENT_RICE_ADAPTATION_ENABLED_FLAG = 23,
-    BPG_CABAC_BYPASS_ALIGNMENT_ENABLED_FLAG = 24,
-    BPG_HEADER_NUMBERS = 25
+/* Values of color_space, which is 0 in a grayscale picture. */
+enum bpg_color_space {
+    BPG_COLOR_SPACE_YCBCR_BT601 = 0,
+    BPG_COLOR_SPACE_RGB = 1,
+    BPG_COLOR_SPACE_YCGCO = 2,
+    BPG_COLOR_SPACE_YCBCR_BT709 = 3,
+    BPG_COLOR_SPACE_YCBCR_BT2020 = 4
 };
 
-/* The refusal numbers. */
+/* What alpha1_flag + 2 * alpha2_flag says. */
+enum bpg_alpha_kind {
+    BPG_ALPHA_NONE = 0,
+    BPG_ALPHA_PLAIN = 1,        /* an alpha plane, the color not premultiplied */
+    BPG_ALPHA_WHITE = 2,        /* the W plane of a CMYK picture in place of alpha */
+    BPG_ALPHA_PREMULTIPLIED = 3 /* an alpha plane, the color premultiplied */
+};
+
+/* The refusals: name, number, words. 21 is not in use. */
+#define BPG_STATUSES(X) \
+    X(BPG_OK, 0, "success") \
+    X(BPG_FILE_TOO_LONG, 1, "the file has more than 16,777,216 bytes") \
+    X(BPG_TRUNCATED, 2, "an item does not fit the file, block, payload or data region") \
+    X(BPG_MAGIC, 3, "the magic is not that of a BPG file") \
+    X(BPG_BAD_PIXEL_FORMAT, 4, "the pixel format is above 5") \
+    X(BPG_BAD_BIT_DEPTH, 5, "the bit depth is above 14") \
+    X(BPG_BAD_COLOR_SPACE, 6, "the color space is above 4, or not 0 in a grayscale picture") \
+    X(BPG_NUMBER_NOT_SHORTEST, 7, "an integer is not in its shortest form") \
+    X(BPG_NUMBER_TOO_LARGE, 8, "an integer is too large") \
+    X(BPG_EMPTY_PICTURE, 9, "the width or height is 0") \
+    X(BPG_BAD_DATA_LENGTH, 10, "the picture data length misses the end of the file") \
+    X(BPG_TOO_MANY_ENTRIES, 11, "there are more than 16 extension entries") \
+    X(BPG_ZERO_PERIOD, 12, "a number of the frame period is 0") \
+    X(BPG_SECOND_LOOP, 13, "there is a second animation control entry") \
+    X(BPG_NO_LOOP, 14, "an animation has no animation control entry") \
+    X(BPG_BAD_HEADER, 15, "the fields and the length of a HEVC header disagree, or a field is too large") \
+    X(BPG_HEVC_RULE, 16, "a HEVC header breaks a rule on sizes or depths") \
+    X(BPG_FORBIDDEN_BIT, 17, "a HEVC header sets a forbidden extension bit or range flag") \
+    X(BPG_RANGE_OUTSIDE, 18, "a range of the record lies outside the source") \
+    X(BPG_INCONSISTENT, 19, "an absent field of the record is not zero, its fields contradict each other, or a field cannot hold its number") \
+    X(BPG_BUFFER_TOO_SMALL, 20, "the buffer or list is too small") \
+    X(BPG_BAD_NAL_UNIT, 22, "a NAL unit is too short, or its header, emulation prevention or SEI messages are wrong") \
+    X(BPG_BAD_NAL_LAYER, 23, "a NAL unit has a layer above 1, layer 1 without alpha, or is a VPS or SPS") \
+    X(BPG_BAD_DURATION, 24, "a frame duration is 0, is the second for its frame, or has no frame after it") \
+    X(BPG_BAD_FRAME_COUNT, 25, "a still file has not exactly one frame, or an animated one fewer than two") \
+    X(BPG_BAD_DATA_START, 26, "the HEVC data is empty or begins with a start code") \
+    X(BPG_DEEP_THUMBNAIL, 27, "a thumbnail stands at level 5") \
+    X(BPG_BAD_THUMBNAIL, 28, "a thumbnail is itself refused") \
+    X(BPG_LARGE_THUMBNAIL, 29, "a thumbnail is wider or taller than its parent, or of its size") \
+    X(BPG_BAD_BATCH, 30, "the lengths do not add up to the buffer, or the lists differ in length")
+
 enum bpg_status {
-    BPG_OK = 0,
-    BPG_FILE_TOO_LONG = 1,      /* above 16,777,216 bytes, read or to be written */
-    BPG_TRUNCATED = 2,          /* an item does not fit the file, the block, the payload or the data */
-    BPG_MAGIC = 3,
-    BPG_BAD_PIXEL_FORMAT = 4,
-    BPG_BAD_BIT_DEPTH = 5,
-    BPG_BAD_COLOR_SPACE = 6,
-    BPG_NUMBER_NOT_SHORTEST = 7,
-    BPG_NUMBER_TOO_LARGE = 8,
-    BPG_EMPTY_PICTURE = 9,      /* width or height 0 */
-    BPG_BAD_DATA_LENGTH = 10,   /* the data length misses the end of the file */
-    BPG_TOO_MANY_ENTRIES = 11,  /* a 17th entry */
-    BPG_ZERO_PERIOD = 12,       /* numerator or denominator 0 */
-    BPG_SECOND_LOOP = 13,       /* a second entry with tag 5 */
-    BPG_NO_LOOP = 14,           /* animation flag without an entry with tag 5 */
-    BPG_BAD_HEADER = 15,        /* HEVC header: fields and length disagree, a trailing bit is 1, or a field is too large */
-    BPG_HEVC_RULE = 16,
-    BPG_FORBIDDEN_BIT = 17,     /* the seven extension bits or a forbidden range flag is not 0 */
-    BPG_RANGE_OUTSIDE = 18,     /* writing: a range outside the source */
-    BPG_INCONSISTENT = 19,      /* writing: an unused or absent field not 0, flags that contradict, loop numbers that are not those of the
-                                   tag 5 payload, or a number that its field cannot hold */
-    BPG_BUFFER_TOO_SMALL = 20,  /* the buffer, or the list of numbers or durations */
-    BPG_BAD_NAL_UNIT = 22,      /* frames, unescape: a unit too short, its header, its emulation prevention or its SEI messages */
-    BPG_BAD_NAL_LAYER = 23,     /* frames: a layer above 1, layer 1 without alpha, or a VPS or SPS */
-    BPG_BAD_DURATION = 24,      /* frames: 0, two with no frame start between, or one with no frame after it */
-    BPG_BAD_FRAME_COUNT = 25,   /* frames: a still file without exactly one, an animated one with fewer than two */
-    BPG_BAD_DATA_START = 26,    /* data empty, or beginning 00 00 01 or 00 00 00 01 */
-    BPG_DEEP_THUMBNAIL = 27,    /* thumbnails: one at level 5, the file being level 1 */
-    BPG_BAD_THUMBNAIL = 28,     /* thumbnails: one that is itself refused */
-    BPG_LARGE_THUMBNAIL = 29,   /* thumbnails: one wider or taller than its parent, or of its size */
-    BPG_BAD_BATCH = 30          /* batch: the lengths do not add up to the buffer, or the lists differ in length */
+#define BPG_STATUS_NAME(name, number, text) name = number,
+    BPG_STATUSES(BPG_STATUS_NAME)
+#undef BPG_STATUS_NAME
 };
 
-/* Reads a file. Success: status 0, the first 117 numbers are the reading's, the rest of the list is unchanged. A list shorter than 117 is
- * refused with 20, after the file's own refusals. *offset is the offset in the file of what was refused, else 0. */
+/* A status in words. */
+static inline const char *bpg_status_text(uint8_t status) {
+    switch (status) {
+#define BPG_STATUS_TEXT(name, number, text) \
+    case number: \
+        return text;
+        BPG_STATUSES(BPG_STATUS_TEXT)
+#undef BPG_STATUS_TEXT
+    default:
+        return "unknown status";
+    }
+}
+
+/* ---- The record: what a file says, field by field, with the names of the BPG specification.
+ *
+ * A record is a list of numbers, which is how the proved functions take it, and struct bpg_record is the names of that memory. A flag is 1 or
+ * 0. How large a number its field can hold is told beside it: u8 is at most 255, u16 at most 65535, u32 at most 2^32 - 1. */
+
+/* A HEVC header, its fields as coded. Fields that are not in the file are zero. */
+struct bpg_hevc_header {
+    uint64_t log2_min_luma_coding_block_size_minus3;       /* u32 */
+    uint64_t log2_diff_max_min_luma_coding_block_size;     /* u32 */
+    uint64_t log2_min_transform_block_size_minus2;         /* u32 */
+    uint64_t log2_diff_max_min_transform_block_size;       /* u32 */
+    uint64_t max_transform_hierarchy_depth_intra;          /* u32 */
+    uint64_t sample_adaptive_offset_enabled_flag;          /* flag */
+    uint64_t pcm_enabled_flag;                             /* flag */
+    uint64_t pcm_sample_bit_depth_luma_minus1;             /* u8 */
+    uint64_t pcm_sample_bit_depth_chroma_minus1;           /* u8 */
+    uint64_t log2_min_pcm_luma_coding_block_size_minus3;   /* u32 */
+    uint64_t log2_diff_max_min_pcm_luma_coding_block_size; /* u32 */
+    uint64_t pcm_loop_filter_disabled_flag;                /* flag */
+    uint64_t strong_intra_smoothing_enabled_flag;          /* flag */
+    uint64_t sps_extension_present_flag;                   /* flag */
+    uint64_t sps_range_extension_flag;                     /* flag */
+    uint64_t sps_extension_7bits;                          /* u8 */
+    uint64_t transform_skip_rotation_enabled_flag;         /* flag, as all that follow */
+    uint64_t transform_skip_context_enabled_flag;
+    uint64_t implicit_rdpcm_enabled_flag;
+    uint64_t explicit_rdpcm_enabled_flag;
+    uint64_t extended_precision_processing_flag;
+    uint64_t intra_smoothing_disabled_flag;
+    uint64_t high_precision_offsets_enabled_flag;
+    uint64_t persistent_rice_adaptation_enabled_flag;
+    uint64_t cabac_bypass_alignment_enabled_flag;
+};
+
+/* An extension entry: its tag, and where its payload starts and how long it is, in the file that was read or in the source to write from. */
+struct bpg_record_entry {
+    uint64_t tag;    /* u32; enum bpg_tag, or any other */
+    uint64_t start;  /* u32 */
+    uint64_t length; /* u32 */
+};
+
+struct bpg_record {
+    uint64_t pixel_format;                                /* u8; enum bpg_pixel_format */
+    uint64_t alpha1_flag;                                 /* flag; bpg_alpha_kind_of tells what alpha1_flag and alpha2_flag say */
+    uint64_t bit_depth_minus_8;                           /* u8 */
+    uint64_t color_space;                                 /* u8; enum bpg_color_space */
+    uint64_t extension_present_flag;                      /* flag; 1 where there are entries */
+    uint64_t alpha2_flag;                                 /* flag */
+    uint64_t limited_range_flag;                          /* flag */
+    uint64_t animation_flag;                              /* flag */
+    uint64_t picture_width;                               /* u32 */
+    uint64_t picture_height;                              /* u32 */
+    uint64_t explicit_length;                             /* flag; the data length is in the file, and not 0 for "to the end of the file" */
+    uint64_t loop_count;                                  /* u16; these three are those of the animation control entry, 0 without one */
+    uint64_t frame_period_num;                            /* u16 */
+    uint64_t frame_period_den;                            /* u16 */
+    struct bpg_hevc_header alpha_header;                  /* of the alpha or W plane; zeros where there is none */
+    struct bpg_hevc_header color_header;
+    uint64_t data_start;                                  /* u32; the HEVC data, without the headers */
+    uint64_t data_length;                                 /* u32 */
+    uint64_t coded_width;                                 /* the size as HEVC codes it: reading answers it, writing does not look at it */
+    uint64_t coded_height;
+    uint64_t entry_count;                                 /* u32, at most BPG_MAX_ENTRIES */
+    struct bpg_record_entry entries[BPG_MAX_ENTRIES];     /* those after the first entry_count are no part of the record */
+};
+
+/* How many numbers stand before the entries, how many an entry has, and how many struct bpg_record has. */
+#define BPG_FIXED_NUMBERS 69
+#define BPG_ENTRY_NUMBERS 3
+#define BPG_RECORD_NUMBERS (BPG_FIXED_NUMBERS + BPG_ENTRY_NUMBERS * BPG_MAX_ENTRIES)
+
+#if defined(__cplusplus)
+#define BPG_ASSERT(name, condition) static_assert(condition, #name)
+#elif defined(__STDC_VERSION__) && __STDC_VERSION__ >= 201112L
+#define BPG_ASSERT(name, condition) _Static_assert(condition, #name)
+#else
+#define BPG_ASSERT(name, condition) typedef char bpg_assert_##name[(condition) ? 1 : -1]
+#endif
+#define BPG_ASSERT_PLACE(member, number) BPG_ASSERT(place_of_##member, offsetof(struct bpg_record, member) == 8 * (number))
+BPG_ASSERT(size_of_header, sizeof(struct bpg_hevc_header) == 8 * 25);
+BPG_ASSERT(size_of_entry, sizeof(struct bpg_record_entry) == 8 * BPG_ENTRY_NUMBERS);
+BPG_ASSERT(size_of_record, sizeof(struct bpg_record) == 8 * BPG_RECORD_NUMBERS);
+BPG_ASSERT_PLACE(pixel_format, 0);
+BPG_ASSERT_PLACE(picture_width, 8);
+BPG_ASSERT_PLACE(explicit_length, 10);
+BPG_ASSERT_PLACE(loop_count, 11);
+BPG_ASSERT_PLACE(alpha_header, 14);
+BPG_ASSERT_PLACE(color_header, 39);
+BPG_ASSERT_PLACE(data_start, 64);
+BPG_ASSERT_PLACE(coded_width, 66);
+BPG_ASSERT_PLACE(entry_count, 68);
+BPG_ASSERT_PLACE(entries, BPG_FIXED_NUMBERS);
+#undef BPG_ASSERT_PLACE
+#undef BPG_ASSERT
+
+/* ---- The proved functions. */
+
+/* Reads a file. Success: status 0, and the first BPG_FIXED_NUMBERS + BPG_ENTRY_NUMBERS * entry_count numbers are the record's; the rest of the
+ * list is unchanged. A list shorter than that is refused with 20, after the file's own refusals; one of BPG_RECORD_NUMBERS is long enough for every
+ * file. *offset is the offset in the file of what was refused, else 0. */
 uint8_t bpg_read(const uint8_t *file, size_t file_len, uint64_t *numbers, size_t numbers_len, size_t *offset);
 
 /* Tag and payload range of entry k, from 0. False and zeros if the file is refused or has no entry k. */
 bool bpg_entry(const uint8_t *file, size_t file_len, size_t k, uint32_t *tag, uint32_t *start, uint32_t *length);
 
-/* Writes the file of a record, whose ranges lie in source, from the start of out; *count is its size, 0 if refused. A list shorter than
- * 115 is refused with 20, then a number that its field cannot hold with 19; numbers from 115 on are not looked at. */
+/* Writes the file of a record, whose ranges lie in source, from the start of out; *count is its size, 0 if refused. Of the list itself are refused,
+ * in this order: fewer than BPG_FIXED_NUMBERS numbers (20), a fixed number that its field cannot hold (19), entry_count above BPG_MAX_ENTRIES (11),
+ * fewer numbers than these entries need (20), a number of these entries above 2^32 - 1 (19). What stands after them is not looked at. */
 uint8_t bpg_write(const uint64_t *numbers, size_t numbers_len, const uint8_t *source, size_t source_len, uint8_t *out, size_t out_len,
                   size_t *count);
+
+/* What bpg_write answers with a buffer that holds the file: so *count is the size of the buffer that it needs. */
+uint8_t bpg_write_size(const uint64_t *numbers, size_t numbers_len, const uint8_t *source, size_t source_len, size_t *count);
 
 /* Writes the canonical form of a file, which is never longer than the file, from the start of out; *count is its size, 0 if refused.
  * Refusals are those of bpg_read, with their *offset, then 20. */
 uint8_t bpg_canonicalize(const uint8_t *file, size_t file_len, uint8_t *out, size_t out_len, size_t *count, size_t *offset);
+
+/* What bpg_canonicalize answers with a buffer that holds the canonical form. */
+uint8_t bpg_canonical_size(const uint8_t *file, size_t file_len, size_t *count, size_t *offset);
 
 /* For how many periods each frame of a file is shown, from the start of durations; *count is the number of frames, 0 if refused. Refusals
  * are those of bpg_read, then 22 to 25, with their *offset, then 20 for a list that is shorter than the count. */
@@ -165,6 +267,84 @@ uint8_t bpg_unescape(const uint8_t *unit, size_t unit_len, uint8_t *out, size_t 
 /* Writes the bytes with emulation prevention bytes, as they stand in a NAL unit, from the start of out; *count is their number, 0 if
  * refused with 20. */
 uint8_t bpg_escape(const uint8_t *bytes, size_t bytes_len, uint8_t *out, size_t out_len, size_t *count);
+
+/* ---- The same over struct bpg_record, and its parts. */
+
+/* bpg_read into a record, which is never too short. Entries that are not in use keep what they had. */
+static inline uint8_t bpg_read_record(const uint8_t *file, size_t file_len, struct bpg_record *record, size_t *offset) {
+    return bpg_read(file, file_len, (uint64_t *)record, BPG_RECORD_NUMBERS, offset);
+}
+
+/* bpg_write of a record. */
+static inline uint8_t bpg_write_record(const struct bpg_record *record, const uint8_t *source, size_t source_len, uint8_t *out,
+                                       size_t out_len, size_t *count) {
+    return bpg_write((const uint64_t *)record, BPG_RECORD_NUMBERS, source, source_len, out, out_len, count);
+}
+
+/* bpg_write_size of a record. */
+static inline uint8_t bpg_write_record_size(const struct bpg_record *record, const uint8_t *source, size_t source_len, size_t *count) {
+    return bpg_write_size((const uint64_t *)record, BPG_RECORD_NUMBERS, source, source_len, count);
+}
+
+/* What the two alpha flags of a record say. */
+static inline enum bpg_alpha_kind bpg_alpha_kind_of(const struct bpg_record *record) {
+    if (record->alpha1_flag != 0) {
+        return record->alpha2_flag != 0 ? BPG_ALPHA_PREMULTIPLIED : BPG_ALPHA_PLAIN;
+    }
+    return record->alpha2_flag != 0 ? BPG_ALPHA_WHITE : BPG_ALPHA_NONE;
+}
+
+/* Puts an entry after those in use, and sets extension_present_flag; its payload is this range of the source to write from. False, and nothing
+ * is changed, if the record has BPG_MAX_ENTRIES entries. */
+static inline bool bpg_push_entry(struct bpg_record *record, uint32_t tag, uint32_t start, uint32_t length) {
+    struct bpg_record_entry *entry;
+    if (record->entry_count >= BPG_MAX_ENTRIES) {
+        return false;
+    }
+    entry = &record->entries[record->entry_count];
+    entry->tag = tag;
+    entry->start = start;
+    entry->length = length;
+    record->entry_count += 1;
+    record->extension_present_flag = 1;
+    return true;
+}
+
+/* The bytes of a range, and *length of them; NULL and 0 if the range does not lie in the file. */
+static inline const uint8_t *bpg_part(const uint8_t *file, size_t file_len, uint64_t start, uint64_t range_length, size_t *length) {
+    if (start > file_len || range_length > file_len - start) {
+        *length = 0;
+        return NULL;
+    }
+    *length = (size_t)range_length;
+    return file + start;
+}
+
+/* The payload of entry k, from 0, in the file that the record was read from, and its *length. NULL and 0 if there is no entry k, or its range
+ * does not lie in this file. */
+static inline const uint8_t *bpg_payload(const uint8_t *file, size_t file_len, const struct bpg_record *record, size_t k, size_t *length) {
+    if (k >= BPG_MAX_ENTRIES || k >= record->entry_count) {
+        *length = 0;
+        return NULL;
+    }
+    return bpg_part(file, file_len, record->entries[k].start, record->entries[k].length, length);
+}
+
+/* The index of the first entry in use with this tag, for bpg_payload; BPG_MAX_ENTRIES, which no entry has, if there is none. */
+static inline size_t bpg_find_entry(const struct bpg_record *record, uint32_t tag) {
+    size_t k;
+    for (k = 0; k < BPG_MAX_ENTRIES && k < record->entry_count; k++) {
+        if (record->entries[k].tag == tag) {
+            return k;
+        }
+    }
+    return BPG_MAX_ENTRIES;
+}
+
+/* The HEVC data in the file that the record was read from, and its *length. NULL and 0 if its range does not lie in this file. */
+static inline const uint8_t *bpg_data(const uint8_t *file, size_t file_len, const struct bpg_record *record, size_t *length) {
+    return bpg_part(file, file_len, record->data_start, record->data_length, length);
+}
 
 #ifdef __cplusplus
 }

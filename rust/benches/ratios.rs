@@ -8,12 +8,18 @@ mod race;
 #[path = "../tests/cases/random.rs"]
 #[allow(dead_code)]
 mod random;
+#[path = "../tests/held/record.rs"]
+#[allow(dead_code)]
+mod record;
 mod sample;
+mod table;
 
 use std::hint::black_box;
 
 use race::Race;
+use record::plain_of;
 use sample::Marks;
+use table::{heading, row, row_copying, row_over};
 
 const SIZES: [(&str, usize); 3] = [("1 KiB", 1 << 10), ("64 KiB", 1 << 16), ("16 MiB", 1 << 24)];
 
@@ -24,36 +30,37 @@ const MARKS: [(&str, Marks); 3] = [
 ];
 
 fn main() {
-    println!("Times are medians in ns a call. Ratios are medians over rounds in which each takes its turn;");
-    println!(
-        "above 1 the library is slower. Every byte of the buffers was touched before; they are not"
-    );
-    println!("cleared between calls. `list`: the C call, a record being a list of numbers. `frame_count`,");
-    println!("`frames`: of 16 MiB; many frames: one in 64 bytes. Marks are two zero bytes and one of at most 3; few:");
-    println!("one in 4 KiB; many: one in 13 bytes.");
+    println!("Times are medians in ns a call. Ratios are medians over rounds in which each takes its turn; above 1 the");
+    println!("library is slower. Every byte of the buffers was touched before. `bpg_read`, `bpg_write`: the calls for C, a");
+    println!("record being a list of numbers; `bpg::read` and the like: those of the Rust package. Marks are two zero bytes and");
+    println!("one of at most 3: few are one in 4 KiB, many one in 13 bytes. Many frames: one in 64 bytes.");
+    println!("Plain Rust answers and takes what the call does: the list, or the package's record, which is that list. In a row with *");
+    println!("it has a record of its own in its place, of a third of the size.");
     println!();
-    println!("                              library      plain  ratio");
+    heading();
     for entries in [0, 3, 16] {
         for alpha in [false, true] {
             reading(entries, alpha);
         }
     }
-    reading_sizes();
-    batch();
-    println!();
-    println!("                              library      plain  ratio     memcpy  ratio");
+    let batched = batch();
     for (name, size) in SIZES {
+        writing_list(name, size);
+        writing(name, size);
         canonicalizing(name, size);
     }
-    for (name, size) in SIZES {
-        writing(name, size);
-        writing_list(name, size);
-    }
-    counting_frames("few zeros", Marks::Few);
-    counting_frames("many zeros", Marks::Many);
+    measuring();
+    counting_frames("few marks", Marks::Few);
+    counting_frames("many marks", Marks::Many);
     timing_frames("still", &sample::still(Marks::Few, 1 << 24));
-    timing_frames("16", &sample::animation(Marks::Few, 1 << 20, 1 << 24));
-    timing_frames("many", &sample::animation(Marks::None, 1 << 6, 1 << 24));
+    timing_frames(
+        "16 frames",
+        &sample::animation(Marks::Few, 1 << 20, 1 << 24),
+    );
+    timing_frames(
+        "many frames",
+        &sample::animation(Marks::None, 1 << 6, 1 << 24),
+    );
     for (name, size) in &SIZES[1..] {
         for (marks_name, marks) in MARKS {
             let name = format!("{name}, {marks_name}");
@@ -61,6 +68,12 @@ fn main() {
             escaping(&name, &sample::bytes(marks, *size));
         }
     }
+    println!();
+    println!(
+        "A file of 16 MiB is read in {:.2} of the time of one of 1 KiB.",
+        reading_sizes()
+    );
+    println!("A batch of 60 files takes {batched:.2} of the time of 60 calls of `bpg_read`.");
 }
 
 fn reading(entries: usize, alpha: bool) {
@@ -78,23 +91,43 @@ fn reading(entries: usize, alpha: bool) {
             },
         ],
     );
-    show_two(&format!("read list, {name}"), &lists);
-    let records = Race::run::<()>(
-        &mut [],
+    row("bpg_read", &name, &lists, [0, 1]);
+    reading_records(&name, file);
+}
+
+/// Against plain Rust that answers the same memory, and against plain Rust with a record of its own.
+fn reading_records(name: &str, file: &[u8]) {
+    let race = Race::run(
+        &mut [bpg::Record::new()],
         [
             &mut |_| {
                 black_box(&bpg::read(black_box(file)));
+            },
+            &mut |_| {
+                black_box(&plain_numbers(black_box(file)));
+            },
+            &mut |record| {
+                black_box(record[0].read_from(black_box(file))).expect("the file is valid");
             },
             &mut |_| {
                 black_box(&plain::read(black_box(file)));
             },
         ],
     );
-    show_two(&format!("read, {name}"), &records);
+    row("bpg::read", name, &race, [0, 1]);
+    row("Record::read_from", name, &race, [2, 1]);
+    row("bpg::read *", name, &race, [0, 3]);
+}
+
+/// The list by value, as the package's record is.
+fn plain_numbers(file: &[u8]) -> Result<[u64; plain::NUMBERS], bpg::Refusal> {
+    let mut list = [0; plain::NUMBERS];
+    plain::read_list(file, &mut list)?;
+    Ok(list)
 }
 
 /// Reading looks at no byte of the data, so its time does not grow with it.
-fn reading_sizes() {
+fn reading_sizes() -> f64 {
     let [small, large] = [1 << 10, 1 << 24].map(|size| sample::file(3, false, size));
     let race = Race::run(
         &mut [1; plain::NUMBERS],
@@ -107,14 +140,11 @@ fn reading_sizes() {
             },
         ],
     );
-    println!(
-        "A file of 16 MiB is read in {:.2} of the time of one of 1 KiB.",
-        race.ratio(0, 1)
-    );
+    race.ratio(0, 1)
 }
 
 /// The files of an hour, against as many calls for one file.
-fn batch() {
+fn batch() -> f64 {
     const FILES: usize = 60;
     let file = sample::file(3, false, 20 << 10);
     let lengths = &[file.len() as u32; FILES];
@@ -146,11 +176,8 @@ fn batch() {
             },
         ],
     );
-    show_two("batch, 60 files of 20 KiB", &race);
-    println!(
-        "It takes {:.2} of the time of 60 calls of `read list`.",
-        race.ratio(0, 2)
-    );
+    row("bpg_batch", "60 files of 20 KiB", &race, [0, 1]);
+    race.ratio(0, 2)
 }
 
 fn canonicalizing(name: &str, size: usize) {
@@ -163,28 +190,32 @@ fn canonicalizing(name: &str, size: usize) {
             &mut |out| black_box(out).copy_from_slice(black_box(file)),
         ],
     );
-    show_three(&format!("canonicalize {name}"), &race);
+    row_copying("bpg::canonicalize", name, size, &race, [0, 1]);
 }
 
+/// Against plain Rust that takes the package's record, and against plain Rust with a record of its own.
 fn writing(name: &str, size: usize) {
     let file = &sample::file(3, true, size)[..];
     let record = &bpg::read(file).expect("the file is valid");
+    let own = &plain::read(file).expect("the file is valid");
     let race = Race::run(
         &mut buffer(size),
         [
             &mut |out| ok(bpg::write(black_box(record), file, black_box(out))),
-            &mut |out| ok(plain::write(black_box(record), file, black_box(out))),
+            &mut |out| {
+                let record = plain_of(black_box(record));
+                ok(plain::write(&record, file, black_box(out)));
+            },
             &mut |out| black_box(out).copy_from_slice(black_box(file)),
+            &mut |out| ok(plain::write(black_box(own), file, black_box(out))),
         ],
     );
-    show_three(&format!("write {name}"), &race);
+    row_copying("bpg::write", name, size, &race, [0, 1]);
+    row_copying("bpg::write *", name, size, &race, [0, 3]);
 }
 
 fn writing_list(name: &str, size: usize) {
-    let file = &sample::file(3, true, size)[..];
-    let list = &mut [0; plain::NUMBERS][..];
-    ok(plain::read_list(file, list).map(|()| 0));
-    let list = &*list;
+    let (file, list) = &listed(size);
     let race = Race::run(
         &mut buffer(size),
         [
@@ -195,7 +226,38 @@ fn writing_list(name: &str, size: usize) {
             &mut |out| black_box(out).copy_from_slice(black_box(file)),
         ],
     );
-    show_three(&format!("write list {name}"), &race);
+    row_copying("bpg_write", name, size, &race, [0, 1]);
+}
+
+/// The sizes that a buffer needs: nothing is copied.
+fn measuring() {
+    let (file, list) = &listed(1 << 24);
+    let writing = Race::run::<()>(
+        &mut [],
+        [
+            &mut |_| {
+                black_box(bpg::ffi::write_size(black_box(list), black_box(file)));
+            },
+            &mut |_| ok(plain::write_list_size(black_box(list), black_box(file))),
+        ],
+    );
+    row("bpg_write_size", "16 MiB", &writing, [0, 1]);
+    let canonical = Race::run::<()>(
+        &mut [],
+        [
+            &mut |_| ok(bpg::canonical_size(black_box(file))),
+            &mut |_| ok(plain::canonical_size(black_box(file))),
+        ],
+    );
+    row("bpg::canonical_size", "16 MiB", &canonical, [0, 1]);
+}
+
+/// A file with 3 entries and alpha, and its list of numbers.
+fn listed(size: usize) -> (Vec<u8>, [u64; plain::NUMBERS]) {
+    let file = sample::file(3, true, size);
+    let mut list = [0; plain::NUMBERS];
+    plain::read_list(&file, &mut list).expect("the file is valid");
+    (file, list)
 }
 
 fn counting_frames(name: &str, marks: Marks) {
@@ -208,7 +270,13 @@ fn counting_frames(name: &str, marks: Marks) {
             &mut |out| black_box(out).copy_from_slice(black_box(file)),
         ],
     );
-    show_three(&format!("frame_count, {name}"), &race);
+    row_copying(
+        "bpg_frame_count",
+        &format!("16 MiB, {name}"),
+        file.len(),
+        &race,
+        [0, 1],
+    );
 }
 
 /// Plain Rust keeps the durations beside the list and goes over the file once.
@@ -223,7 +291,7 @@ fn timing_frames(name: &str, file: &[u8]) {
             &mut |list| ok(plain::frames(black_box(file), black_box(list))),
         ],
     );
-    show_two(&format!("frames, {name}"), &race);
+    row_over("bpg_frames", &format!("16 MiB, {name}"), file.len(), &race);
 }
 
 fn unescaping(name: &str, unit: &[u8]) {
@@ -235,7 +303,7 @@ fn unescaping(name: &str, unit: &[u8]) {
             &mut |out| black_box(out).copy_from_slice(black_box(unit)),
         ],
     );
-    show_three(&format!("unescape {name}"), &race);
+    row_copying("bpg_unescape", name, unit.len(), &race, [0, 1]);
 }
 
 fn escaping(name: &str, bytes: &[u8]) {
@@ -247,7 +315,7 @@ fn escaping(name: &str, bytes: &[u8]) {
             &mut |out| black_box(&mut out[..bytes.len()]).copy_from_slice(black_box(bytes)),
         ],
     );
-    show_three(&format!("escape {name}"), &race);
+    row_copying("bpg_escape", name, bytes.len(), &race, [0, 1]);
 }
 
 /// A buffer whose every byte was written, so that no page is met for the first time.
@@ -257,21 +325,4 @@ fn buffer(size: usize) -> Vec<u8> {
 
 fn ok(answer: Result<usize, bpg::Refusal>) {
     black_box(answer).expect("file and record are valid");
-}
-
-fn show_two<const N: usize>(name: &str, race: &Race<N>) {
-    let (library, plain) = (race.time(0), race.time(1));
-    println!(
-        "{name:27}{library:10.0} {plain:10.0} {:6.2}",
-        race.ratio(0, 1)
-    );
-}
-
-fn show_three(name: &str, race: &Race<3>) {
-    let [library, plain, copy] = [0, 1, 2].map(|function| race.time(function));
-    print!(
-        "{name:27}{library:10.0} {plain:10.0} {:6.2}",
-        race.ratio(0, 1)
-    );
-    println!(" {copy:10.0} {:6.2}", race.ratio(0, 2));
 }

@@ -1,31 +1,38 @@
 //! The extension entries of a file, one at a time.
 
-use std::iter::FusedIterator;
+use core::iter::FusedIterator;
 
-use crate::record::Entry;
+use crate::{Entry, Record};
 
 /// The entries of a file in their order; made by [`entries`](crate::entries).
 #[derive(Clone, Debug)]
-pub struct Entries<'a> {
-    file: &'a [u8],
+pub struct Entries {
+    record: Record,
     next: usize,
 }
 
-impl<'a> Entries<'a> {
-    pub(crate) fn new(file: &'a [u8]) -> Self {
-        Entries { file, next: 0 }
+impl Entries {
+    pub(crate) fn of(record: Record) -> Entries {
+        Entries { record, next: 0 }
     }
 }
 
-impl Iterator for Entries<'_> {
+impl Iterator for Entries {
     type Item = Entry;
 
     fn next(&mut self) -> Option<Entry> {
-        let entry = crate::entry(self.file, self.next)?;
+        let entry = self.record.entries().get(self.next)?;
         self.next += 1;
-        Some(entry)
+        Some(*entry)
+    }
+
+    fn size_hint(&self) -> (usize, Option<usize>) {
+        let left = self.record.entries().len() - self.next;
+        (left, Some(left))
     }
 }
 
+impl ExactSizeIterator for Entries {}
+
 // Past the last entry, `next` stays where it is and so gives `None` again.
-impl FusedIterator for Entries<'_> {}
+impl FusedIterator for Entries {}

@@ -7,8 +7,10 @@
 //! of its proof, and it has no memory of its own to keep a pointer in. The declarations below are not
 //! checked against it by the compiler: they are those of the header, and the comparison runs them all.
 
-/// How many numbers [`read`] fills in: a record's, and the coded width and height.
-pub const NUMBERS: usize = 117;
+use core::mem::MaybeUninit;
+
+use crate::record::{ENTRY_NUMBERS, FIXED_NUMBERS, RECORD_NUMBERS};
+use crate::{Entry, Record, Refusal};
 
 // Results start with values that are no likely answer, so that the comparison sees one that was not set.
 const UNSET: usize = usize::MAX;
@@ -38,11 +40,24 @@ extern "C" {
         out_len: usize,
         count: *mut usize,
     ) -> u8;
+    fn bpg_write_size(
+        numbers: *const u64,
+        numbers_len: usize,
+        source: *const u8,
+        source_len: usize,
+        count: *mut usize,
+    ) -> u8;
     fn bpg_canonicalize(
         file: *const u8,
         file_len: usize,
         out: *mut u8,
         out_len: usize,
+        count: *mut usize,
+        offset: *mut usize,
+    ) -> u8;
+    fn bpg_canonical_size(
+        file: *const u8,
+        file_len: usize,
         count: *mut usize,
         offset: *mut usize,
     ) -> u8;
@@ -87,9 +102,10 @@ extern "C" {
     ) -> u8;
 }
 
-/// Status and offset; on success the reading stands in the first [`NUMBERS`] of `numbers`.
+/// Status and offset; on success the record's numbers stand at the start of `numbers`.
 pub fn read(file: &[u8], numbers: &mut [u64]) -> (u8, usize) {
     let mut offset = UNSET;
+    // SAFETY: pointers and lengths of slices and of locals; see above.
     let status = unsafe {
         bpg_read(
             file.as_ptr(),
@@ -102,9 +118,79 @@ pub fn read(file: &[u8], numbers: &mut [u64]) -> (u8, usize) {
     (status, offset)
 }
 
+/// The record of a file.
+#[inline]
+pub(crate) fn read_record(file: &[u8]) -> Result<Record, Refusal> {
+    let mut record = MaybeUninit::uninit();
+    read_into(file, &mut record)?;
+    // SAFETY: the file was read, so that the record is initialized.
+    Ok(unsafe { record.assume_init() })
+}
+
+/// Reads a file into a record, which is as it was if the file is refused.
+#[inline]
+pub(crate) fn read_over(file: &[u8], record: &mut Record) -> Result<(), Refusal> {
+    // SAFETY: `MaybeUninit` has the layout of what it holds, and `read_into` leaves the record initialized.
+    read_into(file, unsafe { &mut *core::ptr::from_mut(record).cast() })
+}
+
+/// On success the record is initialized: the fixed numbers, and `entry_count` entries, which are at most MAX_ENTRIES.
+#[inline]
+fn read_into(file: &[u8], record: &mut MaybeUninit<Record>) -> Result<(), Refusal> {
+    let mut offset = UNSET;
+    // SAFETY: a record is RECORD_NUMBERS numbers of 64 bits, which the library writes and does not read.
+    let status = unsafe {
+        bpg_read(
+            file.as_ptr(),
+            file.len(),
+            record.as_mut_ptr().cast(),
+            RECORD_NUMBERS,
+            &mut offset,
+        )
+    };
+    crate::answer(status, offset)
+}
+
+/// A record whose every number is zero.
+pub(crate) fn zero_record() -> Record {
+    // SAFETY: a record is numbers of 64 bits, for which all bits zero is a value.
+    unsafe { MaybeUninit::zeroed().assume_init() }
+}
+
+/// The entries of a record that are in use.
+#[inline]
+pub(crate) fn entries(record: &Record) -> &[Entry] {
+    let used = &record.entries[..used(record)];
+    // SAFETY: the entries in use are initialized, and `MaybeUninit` has the layout of what it holds.
+    unsafe { core::slice::from_raw_parts(used.as_ptr().cast(), used.len()) }
+}
+
+/// The entries of a record that are in use, to be changed.
+#[inline]
+pub(crate) fn entries_mut(record: &mut Record) -> &mut [Entry] {
+    let used = used(record);
+    let used = &mut record.entries[..used];
+    // SAFETY: as above.
+    unsafe { core::slice::from_raw_parts_mut(used.as_mut_ptr().cast(), used.len()) }
+}
+
+#[inline]
+fn used(record: &Record) -> usize {
+    record.fixed.entry_count as usize
+}
+
+/// A record as the list of numbers that it is, up to the last entry in use.
+#[inline]
+pub fn numbers(record: &Record) -> &[u64] {
+    let count = FIXED_NUMBERS + ENTRY_NUMBERS * entries(record).len();
+    // SAFETY: a record is numbers of 64 bits without padding, has their alignment, and is initialized so far.
+    unsafe { core::slice::from_raw_parts(core::ptr::from_ref(record).cast(), count) }
+}
+
 /// Whether there is an entry with index `k`, and its tag, start and length, or zeros.
 pub fn entry(file: &[u8], k: usize) -> (bool, [u32; 3]) {
     let [mut tag, mut start, mut length] = [u32::MAX; 3];
+    // SAFETY: pointers and lengths of slices and of locals; see above.
     let found = unsafe {
         bpg_entry(
             file.as_ptr(),
@@ -121,6 +207,7 @@ pub fn entry(file: &[u8], k: usize) -> (bool, [u32; 3]) {
 /// Status and count; on success that many bytes stand at the start of `out`.
 pub fn write(numbers: &[u64], source: &[u8], out: &mut [u8]) -> (u8, usize) {
     let mut count = UNSET;
+    // SAFETY: pointers and lengths of slices and of locals; see above.
     let status = unsafe {
         bpg_write(
             numbers.as_ptr(),
@@ -135,9 +222,26 @@ pub fn write(numbers: &[u64], source: &[u8], out: &mut [u8]) -> (u8, usize) {
     (status, count)
 }
 
+/// Status and count.
+pub fn write_size(numbers: &[u64], source: &[u8]) -> (u8, usize) {
+    let mut count = UNSET;
+    // SAFETY: pointers and lengths of slices and of locals; see above.
+    let status = unsafe {
+        bpg_write_size(
+            numbers.as_ptr(),
+            numbers.len(),
+            source.as_ptr(),
+            source.len(),
+            &mut count,
+        )
+    };
+    (status, count)
+}
+
 /// Status, count and offset; on success that many bytes stand at the start of `out`.
 pub fn canonicalize(file: &[u8], out: &mut [u8]) -> (u8, usize, usize) {
     let [mut count, mut offset] = [UNSET; 2];
+    // SAFETY: pointers and lengths of slices and of locals; see above.
     let status = unsafe {
         bpg_canonicalize(
             file.as_ptr(),
@@ -151,9 +255,18 @@ pub fn canonicalize(file: &[u8], out: &mut [u8]) -> (u8, usize, usize) {
     (status, count, offset)
 }
 
+/// Status, count and offset.
+pub fn canonical_size(file: &[u8]) -> (u8, usize, usize) {
+    let [mut count, mut offset] = [UNSET; 2];
+    // SAFETY: pointers and lengths of slices and of locals; see above.
+    let status = unsafe { bpg_canonical_size(file.as_ptr(), file.len(), &mut count, &mut offset) };
+    (status, count, offset)
+}
+
 /// Status, count and offset; on success that many durations stand at the start of `durations`.
 pub fn frames(file: &[u8], durations: &mut [u16]) -> (u8, usize, usize) {
     let [mut count, mut offset] = [UNSET; 2];
+    // SAFETY: pointers and lengths of slices and of locals; see above.
     let status = unsafe {
         bpg_frames(
             file.as_ptr(),
@@ -170,6 +283,7 @@ pub fn frames(file: &[u8], durations: &mut [u16]) -> (u8, usize, usize) {
 /// Status, count and offset.
 pub fn frame_count(file: &[u8]) -> (u8, usize, usize) {
     let [mut count, mut offset] = [UNSET; 2];
+    // SAFETY: pointers and lengths of slices and of locals; see above.
     let status = unsafe { bpg_frame_count(file.as_ptr(), file.len(), &mut count, &mut offset) };
     (status, count, offset)
 }
@@ -177,12 +291,14 @@ pub fn frame_count(file: &[u8]) -> (u8, usize, usize) {
 /// Status and offset.
 pub fn check_thumbnails(file: &[u8]) -> (u8, usize) {
     let mut offset = UNSET;
+    // SAFETY: pointers and lengths of slices and of locals; see above.
     let status = unsafe { bpg_check_thumbnails(file.as_ptr(), file.len(), &mut offset) };
     (status, offset)
 }
 
 /// Status; on success the lists have the status and the offset of each file.
 pub fn batch(buffer: &[u8], lengths: &[u32], statuses: &mut [u8], offsets: &mut [u32]) -> u8 {
+    // SAFETY: pointers and lengths of slices and of locals; see above.
     unsafe {
         bpg_batch(
             buffer.as_ptr(),
@@ -200,6 +316,7 @@ pub fn batch(buffer: &[u8], lengths: &[u32], statuses: &mut [u8], offsets: &mut 
 /// Status and count; on success that many bytes stand at the start of `out`.
 pub fn unescape(unit: &[u8], out: &mut [u8]) -> (u8, usize) {
     let mut count = UNSET;
+    // SAFETY: pointers and lengths of slices and of locals; see above.
     let status = unsafe {
         bpg_unescape(
             unit.as_ptr(),
@@ -215,6 +332,7 @@ pub fn unescape(unit: &[u8], out: &mut [u8]) -> (u8, usize) {
 /// Status and count; on success that many bytes stand at the start of `out`.
 pub fn escape(bytes: &[u8], out: &mut [u8]) -> (u8, usize) {
     let mut count = UNSET;
+    // SAFETY: pointers and lengths of slices and of locals; see above.
     let status = unsafe {
         bpg_escape(
             bytes.as_ptr(),

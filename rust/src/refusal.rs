@@ -1,13 +1,14 @@
 //! Why a call refused, and where.
 
-use std::error::Error;
-use std::fmt;
+use core::error::Error;
+use core::fmt;
 
-/// The enum of the reasons from one table: number, name, meaning.
+/// The enum of the reasons from one table: number, name, meaning. The words are those of `bpg_status_text` in C.
 macro_rules! reasons {
     ($($number:literal $name:ident $meaning:literal,)*) => {
         /// The reason of a refusal. Its discriminant is the refusal's number.
         #[derive(Clone, Copy, Debug, PartialEq, Eq, Hash)]
+        #[non_exhaustive]
         #[repr(u8)]
         pub enum Reason {
             $(#[doc = concat!($number, ": ", $meaning, ".")] $name = $number,)*
@@ -38,7 +39,7 @@ reasons! {
     3 Magic "the magic is not that of a BPG file",
     4 BadPixelFormat "the pixel format is above 5",
     5 BadBitDepth "the bit depth is above 14",
-    6 BadColorSpace "the color space is above 4, or not 0 in a gray picture",
+    6 BadColorSpace "the color space is above 4, or not 0 in a grayscale picture",
     7 NumberNotShortest "an integer is not in its shortest form",
     8 NumberTooLarge "an integer is too large",
     9 EmptyPicture "the width or height is 0",
@@ -47,12 +48,12 @@ reasons! {
     12 ZeroPeriod "a number of the frame period is 0",
     13 SecondLoop "there is a second animation control entry",
     14 NoLoop "an animation has no animation control entry",
-    15 BadHeader "the fields and the length of a HEVC header disagree",
+    15 BadHeader "the fields and the length of a HEVC header disagree, or a field is too large",
     16 HevcRule "a HEVC header breaks a rule on sizes or depths",
     17 ForbiddenBit "a HEVC header sets a forbidden extension bit or range flag",
     18 RangeOutside "a range of the record lies outside the source",
-    19 Inconsistent "an unused or absent field of the record is not zero, or its fields contradict each other",
-    20 BufferTooSmall "the buffer is too small",
+    19 Inconsistent "an absent field of the record is not zero, its fields contradict each other, or a field cannot hold its number",
+    20 BufferTooSmall "the buffer or list is too small",
     22 BadNalUnit "a NAL unit is too short, or its header, emulation prevention or SEI messages are wrong",
     23 BadNalLayer "a NAL unit has a layer above 1, layer 1 without alpha, or is a VPS or SPS",
     24 BadDuration "a frame duration is 0, is the second for its frame, or has no frame after it",
@@ -85,7 +86,9 @@ impl Reason {
 /// ```
 #[derive(Clone, Copy, Debug, PartialEq, Eq, Hash)]
 pub struct Refusal {
+    /// What is wrong.
     pub reason: Reason,
+    /// Where in the file it is.
     pub offset: usize,
 }
 

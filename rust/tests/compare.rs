@@ -137,6 +137,7 @@ fn large_cases(random: &mut Random) -> Table {
         // Most need no buffer: 1 comes before 20.
         let capacity = if i < 6 { plain::MAX_FILE } else { i };
         held::write_in(&case, capacity, &mut buffers, random, &mut table);
+        held::write_size(&case, &mut table);
         table.cases.records += 1;
     }
     table
@@ -148,6 +149,7 @@ fn above_limit(random: &mut Random, buffers: &mut Buffers, table: &mut Table) {
         let file = &buffer[..plain::MAX_FILE + more];
         held::read(file, random, table);
         held::canonical_in(file, more, buffers, table);
+        held::canonical_size(file, table);
         held::frames(file, random, table);
         table.cases.files += 1;
     }

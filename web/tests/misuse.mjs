@@ -3,7 +3,7 @@ import assert from 'node:assert/strict';
 import { readFileSync } from 'node:fs';
 import { setFlagsFromString } from 'node:v8';
 import { runInNewContext } from 'node:vm';
-import { Bpg, BpgRefusal, load, MAX_FILE, part, Tag } from '../bpg.mjs';
+import { Bpg, BpgRefusal, load, MAX_ENTRIES, MAX_FILE, part, Tag } from '../bpg.mjs';
 import { SIGNATURES } from './raw.mjs';
 
 const module = new WebAssembly.Module(readFileSync(new URL('../bpg.wasm', import.meta.url)));
@@ -212,6 +212,20 @@ const tests = {
   'every call of the module has its signature in raw.mjs'() {
     const calls = WebAssembly.Module.exports(module).filter(({ kind }) => kind === 'function').map(({ name }) => name);
     assert.deepEqual(calls.sort(), Object.keys(SIGNATURES).sort());
+  },
+
+  'refusals, tags and limits are those of the header'() {
+    const header = readFileSync(new URL('../../include/bpg.h', import.meta.url), 'utf8');
+    const camel = (name) => name.split('_').map((word) => word[0] + word.slice(1).toLowerCase()).join('');
+    const statuses = [...header.matchAll(/X\(BPG_(\w+), (\d+), "([^"]*)"\)/g)].filter(([, , number]) => number !== '0');
+    assert.ok(statuses.length > 25);
+    for (const [, name, number, words] of statuses) {
+      const { reason, meaning } = new BpgRefusal(Number(number));
+      assert.deepEqual([reason, meaning], [camel(name), words]);
+    }
+    const constant = (name) => Number(header.match(new RegExp(`^(?:#define| ) *${name} (?:= )?(\\d+)`, 'm'))[1]);
+    for (const [name, tag] of Object.entries(Tag)) assert.equal(tag, constant(`BPG_TAG_${name}`));
+    assert.deepEqual([MAX_FILE, MAX_ENTRIES], [constant('BPG_MAX_FILE'), constant('BPG_MAX_ENTRIES')]);
   },
 
   'the types name every call'() {

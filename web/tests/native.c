@@ -6,9 +6,6 @@
 #include <stdio.h>
 #include <stdlib.h>
 
-uint8_t bpg_write_size(const uint64_t *numbers, size_t numbers_len, const uint8_t *source, size_t source_len, size_t *count);
-uint8_t bpg_canonical_size(const uint8_t *file, size_t file_len, size_t *count, size_t *offset);
-
 struct list {
     void *at;
     size_t count, size;

@@ -1,5 +1,5 @@
 -- The size before the buffer: the buffer is looked at last, and one of `maxFile` bytes holds every file that is written.
-use mathlib.Core.Path.{_≡_, refl, sym, subst}
+use mathlib.Core.Path.{_≡_, refl, subst}
 use mathlib.Core.List.{List}
 use mathlib.Core.Logic.{_≢_}
 use Prim.Native.Nat.{ℕ, _≤_}
@@ -14,7 +14,6 @@ use Rattle.bpg_codec.proofs.Outcome.{unbind, bind-assoc, guard-holds}
 use Rattle.bpg_codec.proofs.Refusals.{Refuses}
 use Rattle.bpg_format.specs.Limits.{maxFile}
 use Rattle.bpg_format.specs.declared.record.Record.{Record}
-use Rattle.bpg_format.specs.Content.{Content}
 use Rattle.bpg_format.specs.Syntax.{fileOf}
 use Rattle.bpg_format.specs.Read.{readContent, ReadingStatus}
 use Rattle.bpg_format.specs.Records.{contentOf}

@@ -134,8 +134,8 @@ OneFormPerPicture =
     (f g out1 out2 : List ℕ) (a : Accepted f) (b : Accepted g) → length (canonicalBytes (a .0)) ≤ length out1 → length (canonicalBytes (b .0)) ≤ length out2
     → Canonicalized f g out1 out2 (canonicalFile f out1) (canonicalFile g out2) (canonicalBuffer f out1) (canonicalBuffer g out2)
 
--- Beside the three: the size before the buffer. `size` is what a call answers to every buffer that is large enough, `answer` what it answers to
--- a given one.
+-- Beside the three: the size before the buffer, which `proofs/Sizes` proves. `size` is what a call answers to every buffer that is large enough,
+-- `answer` what it answers to a given one.
 pub record SizeBefore (size : Written) (answer : (out : List ℕ) → Written) : Type 0 where
   -- it is the call's answer, whenever that is not 20
   pub same : (out : List ℕ) → answer out .status ≢ 20 → size ≡ answer out

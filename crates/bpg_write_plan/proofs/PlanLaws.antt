@@ -1,5 +1,5 @@
 -- What a plan says: the record's refusal, or all that writing its file needs.
-use mathlib.Core.Path.{_≡_, sym, ap, _∙_, subst}
+use mathlib.Core.Path.{_≡_, sym, ap, _∙_}
 use mathlib.Core.Bool.{true, _||_}
 use mathlib.Core.Logic.{_≢_}
 use mathlib.Core.List.{List}
@@ -18,7 +18,7 @@ use Rattle.bpg_format.specs.declared.record.Record.{Record}
 use Rattle.bpg_format.specs.Zero.{zeroHeader}
 use Rattle.bpg_format.specs.Syntax.{fileOf}
 use Rattle.bpg_format.specs.Records.{usedEntries, contentOf}
-use Rattle.bpg_format.specs.Write.{sizedFile, writeOutcome, checkRecord}
+use Rattle.bpg_format.specs.Write.{sizedFile, writeOutcome}
 use Rattle.bpg_format.proofs.Writing.{write-checks}
 use Rattle.bpg_write_check.specs.Check.{checkStatus}
 use Rattle.bpg_write_check.proofs.Judgement.{check-passes, check-refuses}

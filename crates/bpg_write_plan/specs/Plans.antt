@@ -17,6 +17,7 @@ use Rattle.bpg_write_plan.specs.FileParts.{RangeInside, entriesPart, fil
 
 -- of a record that is written if the buffer holds its file
 pub record Ready (r : Record) (source : List ℕ) (p : Plan) : Type 0 where
+  -- only a buffer that is too small is refused
   pub only-small : (capacity : ℕ) → let file = fileOf (contentOf r source) in writeOutcome capacity r source ≡ (guard (leb (length file) capacity) 20 0 >>= λ _. ok file)
   -- its fields and ranges
   pub format : r .«pixel_format» ≤ 5

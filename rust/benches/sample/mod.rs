@@ -2,9 +2,7 @@
 
 use std::ops::Range;
 
-use bpg::{Entry, HevcHeader, Record, Span};
-
-use crate::plain;
+use crate::plain::{self, Entry, HevcHeader, Record, Span};
 use crate::random::Random;
 
 /// A payload's bytes; it begins with loop numbers, so that it can be that of any tag.

@@ -3,7 +3,7 @@
 use super::model::ue7;
 use super::records::Case;
 use super::Random;
-use crate::plain::{read_list, MAX_FILE, NUMBERS};
+use crate::plain::{read_list, ENTRY, FIXED, MAX_FILE, NUMBERS};
 
 /// File A of document 01, which takes any data after it.
 const FILE_A: &[u8] = b"BPG\xFB\x20\x00\x08\x84\x1E\x00\x03\x92\x4D\x00\x26\x01";
@@ -48,15 +48,14 @@ pub fn record_at_limit(random: &mut Random, source: Vec<u8>) -> Case {
     let mut numbers = vec![0; NUMBERS];
     read_list(FILE_A, &mut numbers).expect("file A is valid");
     numbers[4] = 1;
-    numbers[11] = 16;
-    for k in 0..16 {
-        numbers[12 + 3 * k] = 1;
-        numbers[14 + 3 * k] = source.len() as u64;
+    numbers[68] = 16;
+    for entry in numbers[FIXED..].chunks_exact_mut(ENTRY) {
+        (entry[0], entry[2]) = (1, source.len() as u64);
     }
     let block = 16 * (source.len() + 4);
     let rest = MAX_FILE - block - 14 - 4;
     let by = random.pick(&[0, 1, 2, 1000, 500_000]);
-    numbers[113] = random.below(3) as u64;
-    numbers[114] = (rest + by - random.below(2)) as u64;
+    numbers[64] = random.below(3) as u64;
+    numbers[65] = (rest + by - random.below(2)) as u64;
     Case { numbers, source }
 }

@@ -3,7 +3,7 @@
 use super::faults::{spoiled_control, spoiled_data};
 use super::model::Model;
 use super::Random;
-use crate::plain::{read_list, NUMBERS, RECORD};
+use crate::plain::{read_list, ENTRY, FIXED, NUMBERS};
 
 pub struct Case {
     pub numbers: Vec<u64>,
@@ -11,11 +11,12 @@ pub struct Case {
 }
 
 const ANIMATION: usize = 7;
-const ENTRY_COUNT: usize = 11;
-const ENTRIES: usize = 12;
-const LOOP: usize = 60;
-const HEADERS: usize = 63;
-const DATA: usize = 113;
+const LOOP: usize = 11;
+const HEADERS: usize = 14;
+const DATA: usize = 64;
+const CODED: usize = 66;
+const ENTRY_COUNT: usize = 68;
+const ENTRIES: usize = 69;
 
 /// A record that was read, its parts perhaps at other places of another source, mostly spoiled.
 pub fn case(random: &mut Random) -> Case {
@@ -29,11 +30,12 @@ pub fn case(random: &mut Random) -> Case {
     if random.flag() {
         case.scatter(random);
     }
-    match random.below(8) {
+    match random.below(9) {
         0 | 1 => {}
         2..=4 => case.change(random),
         5 => (0..3).for_each(|_| case.change(random)),
         6 => case.spoil_control(random),
+        7 => case.misfit(random),
         _ => case.contradict(random),
     }
     case.resize(random);
@@ -41,15 +43,34 @@ pub fn case(random: &mut Random) -> Case {
 }
 
 impl Case {
-    /// A list may be longer than the record, whatever the numbers after it, or too short.
+    /// A list may be longer than the record, whatever the numbers after it, or too short: for the fixed numbers, or
+    /// for its entries.
     fn resize(&mut self, random: &mut Random) {
+        let needed = FIXED + ENTRY * self.used();
         let length = match random.below(32) {
-            0 => random.below(RECORD),
-            1 => RECORD - 1,
-            _ => RECORD + random.below(5),
+            0 => random.below(needed),
+            1 => needed - 1,
+            2 => random.pick(&[0, FIXED - 1, FIXED]),
+            3..=12 => needed,
+            _ => needed + random.below(2 * NUMBERS),
         };
-        self.numbers.truncate(length.min(RECORD));
+        self.numbers.truncate(length.min(needed));
         self.numbers.resize_with(length, || random.next());
+    }
+
+    /// Numbers that their fields cannot hold, before and after a count of entries at its limit or above.
+    fn misfit(&mut self, random: &mut Random) {
+        self.numbers[ENTRY_COUNT] = random.pick(&[1, 15, 16, 16, 17, 18, 255, u64::from(u32::MAX)]);
+        if random.one_in(4) {
+            self.numbers[random.below(CODED)] = random.pick(&EDGES);
+        }
+        if random.one_in(8) {
+            self.numbers[ENTRY_COUNT] = random.pick(&EDGES);
+        }
+        if random.flag() {
+            let at = ENTRIES + random.below(NUMBERS - ENTRIES);
+            self.numbers[at] = random.pick(&EDGES);
+        }
     }
 
     fn used(&self) -> usize {
@@ -61,7 +82,7 @@ impl Case {
     fn scatter(&mut self, random: &mut Random) {
         let old = std::mem::take(&mut self.source);
         self.source = random.bytes(old.len() + 8);
-        let mut parts: Vec<usize> = (0..self.used()).map(|k| ENTRIES + 3 * k + 1).collect();
+        let mut parts: Vec<usize> = (0..self.used()).map(|k| ENTRIES + ENTRY * k + 1).collect();
         parts.sort_by_key(|&at| self.numbers[at - 1] == 5);
         parts.insert(0, DATA);
         for at in parts {
@@ -74,10 +95,11 @@ impl Case {
 
     /// Another value for one number, often in a group that has few.
     fn change(&mut self, random: &mut Random) {
-        let groups = [0, ENTRY_COUNT, ENTRIES, LOOP, HEADERS, DATA, RECORD];
+        let end = ENTRIES + ENTRY * self.used().max(1);
+        let groups = [0, LOOP, HEADERS, DATA, CODED, ENTRY_COUNT, ENTRIES, end];
         let group = random.below(groups.len() - 1);
         let at = match random.below(3) {
-            0 => random.below(RECORD),
+            0 => random.below(end),
             _ => random.within(groups[group], groups[group + 1] - 1),
         };
         let old = self.numbers[at];
@@ -94,7 +116,7 @@ impl Case {
 
     /// Another tag 5 payload, mostly one with a fault, or other loop numbers.
     fn spoil_control(&mut self, random: &mut Random) {
-        let Some(k) = (0..self.used()).find(|k| self.numbers[ENTRIES + 3 * k] == 5) else {
+        let Some(k) = (0..self.used()).find(|k| self.numbers[ENTRIES + ENTRY * k] == 5) else {
             return self.second_control(random);
         };
         if random.one_in(4) {
@@ -102,8 +124,8 @@ impl Case {
             return;
         }
         let payload = spoiled_control(random);
-        self.numbers[ENTRIES + 3 * k + 1] = self.source.len() as u64;
-        self.numbers[ENTRIES + 3 * k + 2] = payload.len() as u64;
+        self.numbers[ENTRIES + ENTRY * k + 1] = self.source.len() as u64;
+        self.numbers[ENTRIES + ENTRY * k + 2] = payload.len() as u64;
         self.source.extend(payload);
     }
 
@@ -111,7 +133,7 @@ impl Case {
     fn second_control(&mut self, random: &mut Random) {
         for _ in 0..2 {
             let k = random.below(self.used().max(1));
-            self.numbers[ENTRIES + 3 * k] = 5;
+            self.numbers[ENTRIES + ENTRY * k] = 5;
         }
     }
 
@@ -159,19 +181,19 @@ impl Case {
     /// The tag 5 entry once more, before or after it.
     fn repeat_control(&mut self, random: &mut Random) {
         let used = self.used();
-        let Some(k) = (0..used).find(|k| self.numbers[ENTRIES + 3 * k] == 5) else {
+        let Some(k) = (0..used).find(|k| self.numbers[ENTRIES + ENTRY * k] == 5) else {
             return;
         };
-        let from = ENTRIES + 3 * k;
-        let to = ENTRIES + 3 * random.below(used);
-        self.numbers.copy_within(from..from + 3, to);
+        let from = ENTRIES + ENTRY * k;
+        let to = ENTRIES + ENTRY * random.below(used);
+        self.numbers.copy_within(from..from + ENTRY, to);
     }
 
     /// A range around the source's end.
     fn reach(&mut self, random: &mut Random) {
         let at = match random.below(self.used() + 1) {
             0 => DATA,
-            k => ENTRIES + 3 * (k - 1) + 1,
+            k => ENTRIES + ENTRY * (k - 1) + 1,
         };
         let length = self.source.len() as u64;
         self.numbers[at] = length + random.below(2) as u64;

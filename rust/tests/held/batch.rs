@@ -41,7 +41,7 @@ pub fn batch(batch: &Batch, random: &mut Random, statuses: &mut Statuses) {
     same(
         "the wrapper's answer",
         &case,
-        bpg::batch(buffer, lengths),
+        bpg::batch_to_vec(buffer, lengths),
         Ok(alone(batch)),
     );
 }

@@ -1,10 +1,11 @@
 //! The canonical form, in buffers of the right size, smaller and larger.
 
-use super::{hex, same, status, Buffers, Call, Table};
+use super::{hex, same, status, Buffers, Call, Table, SMALL};
 use crate::cases::Random;
 use crate::plain;
 
 pub fn canonical(file: &[u8], buffers: &mut Buffers, random: &mut Random, table: &mut Table) {
+    canonical_size(file, table);
     let larger = file.len() + random.within(1, 9);
     let Some(size) = canonical_in(file, larger, buffers, table) else {
         canonical_in(file, random.below(larger), buffers, table);
@@ -35,6 +36,22 @@ pub fn canonical_in(
     same("the wrapper's answer", &case, wrapped, expected);
     same("a byte afterwards", &case, pair.fault(count), None);
     expected.ok()
+}
+
+/// The size of the form, and the form in a buffer of that size.
+pub fn canonical_size(file: &[u8], table: &mut Table) {
+    let case = || format!("size of the canonical form of file: {}", hex(file));
+    let expected = plain::canonical_size(file);
+    let (number, count, offset) = bpg::ffi::canonical_size(file);
+    same("the status", &case, (number, offset), status(&expected));
+    same("the count", &case, count, expected.unwrap_or(0));
+    table.count(Call::CanonicalSize, number);
+    let wrapped = bpg::canonical_size(file);
+    same("the wrapper's answer", &case, wrapped, expected);
+    if file.len() < SMALL {
+        let made = bpg::canonicalize_to_vec(file).map(|form| form.len());
+        same("the form that is made", &case, made, expected);
+    }
 }
 
 /// The canonical form of the canonical form is itself.

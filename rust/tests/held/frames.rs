@@ -42,6 +42,10 @@ fn frames_in(
     same("the list", &case, &list, &expected_list);
     let [kept, rest] = [&list, &before].map(|list| &list[count..]);
     same("the rest of the list", &case, kept, rest);
+    list.copy_from_slice(&before);
+    let wrapped = bpg::frames(file, &mut list);
+    same("the wrapper's answer", &case, wrapped, expected);
+    same("the list afterwards", &case, &list, &expected_list);
     table.count(Call::Frames, number);
     (number, count, offset)
 }
@@ -51,5 +55,6 @@ fn durations(file: &[u8], count: usize) {
     let case = || format!("durations of file: {}", hex(file));
     let mut list = vec![0; count];
     let expected = plain::frames(file, &mut list).map(|_| list);
-    same("the wrapper's list", &case, bpg::frames(file), expected);
+    let made = bpg::frames_to_vec(file);
+    same("the wrapper's list", &case, made, expected);
 }

@@ -6,6 +6,7 @@ mod canonical;
 mod escape;
 mod frames;
 mod read;
+mod record;
 mod statuses;
 mod table;
 mod thumbnails;
@@ -13,16 +14,19 @@ mod write;
 
 pub use batch::{batch, BATCH_STATUSES};
 pub use buffers::Buffers;
-pub use canonical::{canonical, canonical_in};
+pub use canonical::{canonical, canonical_in, canonical_size};
 pub use escape::escape;
 pub use frames::frames;
 pub use read::read;
 pub use statuses::Statuses;
 pub use table::{Call, Cases, Table};
 pub use thumbnails::{thumbnails, THUMBNAIL_STATUSES};
-pub use write::{write, write_in};
+pub use write::{write, write_in, write_size};
 
 use bpg::Refusal;
+
+/// Files below this are made in memory of their own, too.
+const SMALL: usize = 1 << 20;
 
 /// A status and its offset, as the static library answers them.
 fn status<T>(answer: &Result<T, Refusal>) -> (u8, usize) {

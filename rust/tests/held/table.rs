@@ -7,7 +7,9 @@ use std::ops::AddAssign;
 pub enum Call {
     Read,
     Write,
+    WriteSize,
     Canonicalize,
+    CanonicalSize,
     Frames,
     FrameCount,
     Unescape,
@@ -27,15 +29,17 @@ pub struct Cases {
 #[derive(Clone, Default)]
 pub struct Table {
     pub cases: Cases,
-    counts: [[u64; 7]; 27],
+    counts: [[u64; 9]; 27],
 }
 
 /// The calls, and the refusals that can occur in each.
-const CALLS: [(&str, &[&[usize]]); 7] = [
+const CALLS: [(&str, &[&[usize]]); 9] = [
     ("read", &[READ]),
     ("write", &[WRITE]),
+    ("write_size", &[WRITE]),
     // What was read has neither 18 nor 19.
     ("canonicalize", &[READ, SHORT]),
+    ("canon_size", &[READ]),
     ("frames", &[READ, SHORT, UNIT, FRAMES]),
     ("frame_count", &[READ, UNIT, FRAMES]),
     ("unescape", &[SHORT, UNIT]),

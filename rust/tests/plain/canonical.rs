@@ -1,15 +1,25 @@
 //! The canonical form of a file: its record with the canonical encoding choices, written again.
 
-use bpg::{HevcHeader, Record, Refusal};
+use bpg::Refusal;
 
 use super::reader::read;
-use super::writer::{store, ue7_size};
+use super::record::{HevcHeader, Record};
+use super::writer::{file_size, store, ue7_size};
 
 /// The canonical form into `out`, and its size.
 pub fn canonicalize(file: &[u8], out: &mut [u8]) -> Result<usize, Refusal> {
+    store(&chosen(file)?, file, out)
+}
+
+/// The size of the canonical form.
+pub fn canonical_size(file: &[u8]) -> Result<usize, Refusal> {
+    file_size(&chosen(file)?)
+}
+
+fn chosen(file: &[u8]) -> Result<Record, Refusal> {
     let mut record = read(file)?;
     choose(&mut record);
-    store(&record, file, out)
+    Ok(record)
 }
 
 /// Takes the canonical choices. Where there are entries, or flags, their presence flag is set already.

@@ -1,13 +1,14 @@
 //! Judging a record before it is written.
 
-use bpg::{Entry, HevcHeader, Reason, Record, Span};
+use bpg::Reason;
 
 use super::header::broken;
 use super::reader::{broken_flags, data_allowed, loop_numbers};
+use super::record::{Entry, HevcHeader, Record, Span};
 
 /// The first reason to refuse a record over its source; the size is judged later.
 pub fn check(record: &Record, source: &[u8]) -> Result<(), Reason> {
-    let used = used(record).ok_or(Reason::TooManyEntries)?;
+    let used = record.used().ok_or(Reason::TooManyEntries)?;
     require(inside(record, used, source), Reason::RangeOutside)?;
     require(consistent(record, used), Reason::Inconsistent)?;
     broken_flags(record).map_or(Ok(()), Err)?;
@@ -17,7 +18,7 @@ pub fn check(record: &Record, source: &[u8]) -> Result<(), Reason> {
     let still = !record.animation_flag;
     require(animated || still, Reason::NoLoop)?;
     let bit_depth = u32::from(record.bit_depth_minus_8) + 8;
-    if has_alpha(record) {
+    if record.has_alpha() {
         check_header(&record.alpha_header, bit_depth)?;
     }
     check_header(&record.color_header, bit_depth)?;
@@ -33,15 +34,6 @@ fn require(holds: bool, reason: Reason) -> Result<(), Reason> {
     }
 }
 
-/// The entries in use; `None` if the count is above what a record holds.
-pub fn used(record: &Record) -> Option<&[Entry]> {
-    record.entries.get(..record.entry_count as usize)
-}
-
-pub fn has_alpha(record: &Record) -> bool {
-    record.alpha1_flag || record.alpha2_flag
-}
-
 fn inside(record: &Record, used: &[Entry], source: &[u8]) -> bool {
     let ends = |span: Span| u64::from(span.start) + u64::from(span.length);
     let length = source.len() as u64;
@@ -54,7 +46,7 @@ fn consistent(record: &Record, used: &[Entry]) -> bool {
     unused.iter().all(|entry| *entry == Entry::default())
         && (record.extension_present_flag || used.is_empty())
         && (loop_of(record) == [0; 3] || used.iter().any(|entry| entry.tag == 5))
-        && (has_alpha(record) || record.alpha_header == HevcHeader::default())
+        && (record.has_alpha() || record.alpha_header == HevcHeader::default())
         && consistent_header(&record.alpha_header)
         && consistent_header(&record.color_header)
 }

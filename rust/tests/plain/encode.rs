@@ -1,6 +1,6 @@
 //! The bits of a HEVC header that keeps the rules.
 
-use bpg::HevcHeader;
+use super::record::HevcHeader;
 
 /// The bytes of a header with its trailing zero bits, and how many they are. By the rules, the sizes have
 /// at most 46 bits and the extension 19, so that each part fits 64 bits and both fit 128.

@@ -2,7 +2,6 @@
 
 use bpg::{Reason, Refusal};
 
-use super::check::has_alpha;
 use super::escape::unescape;
 use super::nal::{Header, Unit, Units};
 use super::reader::read;
@@ -36,7 +35,7 @@ fn judge(file: &[u8], mut frame: impl FnMut(u16)) -> Result<usize, Refusal> {
     // A duration that waits for its frame, and where its unit stands.
     let mut next: Option<(u16, usize)> = None;
     for unit in Units::new(file, data) {
-        match content(&unit, has_alpha(&record))? {
+        match content(&unit, record.has_alpha())? {
             Content::FrameStart => {
                 count += 1;
                 frame(next.take().map_or(1, |(duration, _)| duration));

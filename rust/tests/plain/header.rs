@@ -1,9 +1,10 @@
 //! Reading a HEVC header: its length, fields, trailing bits and rules.
 
-use bpg::{HevcHeader, Reason, Refusal};
+use bpg::{Reason, Refusal};
 
 use super::bits::Bits;
 use super::cursor::Cursor;
+use super::record::HevcHeader;
 use super::refuse;
 
 /// The header at the cursor. Every fault but that of the length itself is reported at the length.

@@ -1,27 +1,40 @@
-//! A record as a list of numbers, the form in which the static library takes and answers it.
+//! A record as a list of numbers, the form in which the static library takes and answers it: fixed numbers
+//! first, then those of the entries in use.
 
-use bpg::{Entry, HevcHeader, Reason, Record, Refusal, Span};
+use bpg::{Reason, Refusal};
 
 use super::reader::read;
+use super::record::{Entry, HevcHeader, Record, Span, MAX_ENTRIES};
 use super::refuse;
 
-/// How many numbers a record has.
-pub const RECORD: usize = 115;
+/// The numbers before the entries.
+pub const FIXED: usize = 69;
 
-/// A record's numbers, and the coded width and height.
-pub const NUMBERS: usize = 117;
+/// The numbers of an entry.
+pub const ENTRY: usize = 3;
 
-/// Reads a file into the start of a list, which keeps its numbers if the call is refused.
+/// The numbers of a record whose entries are all in use.
+pub const NUMBERS: usize = FIXED + ENTRY * MAX_ENTRIES;
+
+/// Reads a file into the start of a list. The list keeps its other numbers, and all if the call is refused.
 pub fn read_list(file: &[u8], list: &mut [u64]) -> Result<(), Refusal> {
     let record = read(file)?;
-    match list.first_chunk_mut() {
-        Some(list) => fill(list, &record),
-        None => return refuse(Reason::BufferTooSmall, 0),
+    let used = record.used().unwrap_or_default();
+    let Some((fixed, rest)) = list.split_first_chunk_mut() else {
+        return refuse(Reason::BufferTooSmall, 0);
+    };
+    let Some(entries) = rest.get_mut(..ENTRY * used.len()) else {
+        return refuse(Reason::BufferTooSmall, 0);
+    };
+    fill(fixed, &record);
+    for (numbers, entry) in entries.chunks_exact_mut(ENTRY).zip(used) {
+        let Span { start, length } = entry.payload;
+        numbers.copy_from_slice(&[entry.tag.into(), start.into(), length.into()]);
     }
     Ok(())
 }
 
-fn fill(list: &mut [u64; NUMBERS], record: &Record) {
+fn fill(list: &mut [u64; FIXED], record: &Record) {
     let head = [
         record.pixel_format.into(),
         record.alpha1_flag.into(),
@@ -34,23 +47,18 @@ fn fill(list: &mut [u64; NUMBERS], record: &Record) {
         record.picture_width.into(),
         record.picture_height.into(),
         record.explicit_length.into(),
-        record.entry_count.into(),
+        record.loop_count.into(),
+        record.frame_period_num.into(),
+        record.frame_period_den.into(),
     ];
-    list[..12].copy_from_slice(&head);
-    for (k, entry) in record.entries.iter().enumerate() {
-        let Span { start, length } = entry.payload;
-        let three = [entry.tag.into(), start.into(), length.into()];
-        list[12 + 3 * k..15 + 3 * k].copy_from_slice(&three);
-    }
-    list[60] = record.loop_count.into();
-    list[61] = record.frame_period_num.into();
-    list[62] = record.frame_period_den.into();
-    fill_header(&mut list[63..88], &record.alpha_header);
-    fill_header(&mut list[88..113], &record.color_header);
-    list[113] = record.data.start.into();
-    list[114] = record.data.length.into();
-    list[115] = record.coded_width;
-    list[116] = record.coded_height;
+    list[..14].copy_from_slice(&head);
+    fill_header(&mut list[14..39], &record.alpha_header);
+    fill_header(&mut list[39..64], &record.color_header);
+    list[64] = record.data.start.into();
+    list[65] = record.data.length.into();
+    list[66] = record.coded_width;
+    list[67] = record.coded_height;
+    list[68] = record.entry_count.into();
 }
 
 fn fill_header(list: &mut [u64], header: &HevcHeader) {
@@ -76,38 +84,55 @@ fn fill_header(list: &mut [u64], header: &HevcHeader) {
     list[16..25].copy_from_slice(&header.range_flags.map(u64::from));
 }
 
-/// The record of a list; `None` if a field cannot hold its number. The coded size is not looked at.
-pub fn record_of(list: &[u64]) -> Option<Record> {
-    let mut numbers = Numbers(list.iter());
-    Some(Record {
-        pixel_format: numbers.next()?,
-        alpha1_flag: numbers.flag()?,
-        bit_depth_minus_8: numbers.next()?,
-        color_space: numbers.next()?,
-        extension_present_flag: numbers.flag()?,
-        alpha2_flag: numbers.flag()?,
-        limited_range_flag: numbers.flag()?,
-        animation_flag: numbers.flag()?,
-        picture_width: numbers.next()?,
-        picture_height: numbers.next()?,
-        explicit_length: numbers.flag()?,
-        entry_count: numbers.next()?,
-        entries: numbers.entries()?,
-        loop_count: numbers.next()?,
-        frame_period_num: numbers.next()?,
-        frame_period_den: numbers.next()?,
-        alpha_header: numbers.header()?,
-        color_header: numbers.header()?,
-        data: numbers.span()?,
-        coded_width: 0,
-        coded_height: 0,
-    })
+/// The record of a list, or why there is none: a list that is too short, a field that cannot hold its number,
+/// too many entries. What stands after the entries in use is not looked at.
+pub fn record_of(list: &[u64]) -> Result<Record, Reason> {
+    let (fixed, rest) = list
+        .split_first_chunk::<FIXED>()
+        .ok_or(Reason::BufferTooSmall)?;
+    let mut record = Numbers(fixed.iter()).fixed().ok_or(Reason::Inconsistent)?;
+    let count = record.entry_count as usize;
+    let entries = record.entries.get_mut(..count);
+    let entries = entries.ok_or(Reason::TooManyEntries)?;
+    let numbers = rest.get(..ENTRY * count).ok_or(Reason::BufferTooSmall)?;
+    let mut numbers = Numbers(numbers.iter());
+    for entry in entries {
+        *entry = numbers.entry().ok_or(Reason::Inconsistent)?;
+    }
+    Ok(record)
 }
 
 /// The numbers of a list that are left.
 struct Numbers<'a>(std::slice::Iter<'a, u64>);
 
 impl Numbers<'_> {
+    /// A record without its entries. The coded size is not looked at.
+    fn fixed(&mut self) -> Option<Record> {
+        Some(Record {
+            pixel_format: self.next()?,
+            alpha1_flag: self.flag()?,
+            bit_depth_minus_8: self.next()?,
+            color_space: self.next()?,
+            extension_present_flag: self.flag()?,
+            alpha2_flag: self.flag()?,
+            limited_range_flag: self.flag()?,
+            animation_flag: self.flag()?,
+            picture_width: self.next()?,
+            picture_height: self.next()?,
+            explicit_length: self.flag()?,
+            loop_count: self.next()?,
+            frame_period_num: self.next()?,
+            frame_period_den: self.next()?,
+            alpha_header: self.header()?,
+            color_header: self.header()?,
+            data: self.span()?,
+            coded_width: self.next()?,
+            coded_height: self.next()?,
+            entry_count: self.next()?,
+            entries: Default::default(),
+        })
+    }
+
     fn next<T: TryFrom<u64>>(&mut self) -> Option<T> {
         T::try_from(*self.0.next()?).ok()
     }
@@ -127,13 +152,11 @@ impl Numbers<'_> {
         })
     }
 
-    fn entries(&mut self) -> Option<[Entry; 16]> {
-        let mut entries = [Entry::default(); 16];
-        for entry in &mut entries {
-            entry.tag = self.next()?;
-            entry.payload = self.span()?;
-        }
-        Some(entries)
+    fn entry(&mut self) -> Option<Entry> {
+        Some(Entry {
+            tag: self.next()?,
+            payload: self.span()?,
+        })
     }
 
     fn header(&mut self) -> Option<HevcHeader> {

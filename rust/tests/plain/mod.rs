@@ -15,18 +15,20 @@ mod list;
 mod marks;
 mod nal;
 mod reader;
+mod record;
 mod sei;
 mod thumbnails;
 mod writer;
 
 pub use batch::batch;
-pub use canonical::canonicalize;
+pub use canonical::{canonical_size, canonicalize};
 pub use escape::{escape, unescape};
 pub use frames::{frame_count, frames};
-pub use list::{read_list, record_of, NUMBERS, RECORD};
+pub use list::{read_list, record_of, ENTRY, FIXED, NUMBERS};
 pub use reader::read;
+pub use record::{Entry, HevcHeader, Record, Span, MAX_ENTRIES};
 pub use thumbnails::check_thumbnails;
-pub use writer::{write, write_list};
+pub use writer::{write, write_list, write_list_size, write_size};
 
 use bpg::{Reason, Refusal};
 

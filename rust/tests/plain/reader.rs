@@ -1,9 +1,10 @@
 //! Reading a file in one pass, each rule when its item is read.
 
-use bpg::{Entry, Reason, Record, Refusal, Span};
+use bpg::{Reason, Refusal};
 
 use super::cursor::Cursor;
 use super::header::header;
+use super::record::{Entry, Record, Span};
 use super::{refuse, MAX_FILE};
 
 /// The record of a file, or the first refusal in document order.
@@ -153,7 +154,7 @@ fn has_loop(record: &Record) -> bool {
 #[inline]
 fn headers(cursor: &mut Cursor, record: &mut Record) -> Result<(), Refusal> {
     let bit_depth = u32::from(record.bit_depth_minus_8) + 8;
-    if record.alpha1_flag || record.alpha2_flag {
+    if record.has_alpha() {
         record.alpha_header = header(cursor, bit_depth)?;
     }
     record.color_header = header(cursor, bit_depth)?;

@@ -2,9 +2,12 @@
 
 use std::ops::Range;
 
-use bpg::{Reason, Record, Refusal, THUMBNAIL};
+use bpg::{Reason, Refusal};
 
-use super::{read, refuse};
+use super::{read, refuse, Record};
+
+/// The tag of a thumbnail.
+const THUMBNAIL: u32 = 4;
 
 /// The level that is not entered; the outer file is level 1.
 const TOO_DEEP: usize = 5;
@@ -44,7 +47,7 @@ pub fn check_thumbnails(file: &[u8]) -> Result<(), Refusal> {
 
 /// The thumbnails of a file that stands at `start`: the first one comes to the top of the stack.
 fn push(pending: &mut Vec<Pending>, record: &Record, start: usize, level: usize) {
-    let used = &record.entries[..record.entry_count as usize];
+    let used = record.used().unwrap_or_default();
     for entry in used.iter().rev().filter(|entry| entry.tag == THUMBNAIL) {
         let Range { start: from, end } = entry.payload.range();
         pending.push(Pending {

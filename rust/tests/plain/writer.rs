@@ -1,10 +1,11 @@
 //! Writing a record: judged, then measured, then stored.
 
-use bpg::{Reason, Record, Refusal, Span};
+use bpg::{Reason, Refusal};
 
-use super::check::{check, has_alpha, used};
+use super::check::check;
 use super::encode::encode;
-use super::list::{record_of, RECORD};
+use super::list::record_of;
+use super::record::{Record, Span};
 use super::{refuse, MAX_FILE};
 
 /// The file of a record into `out`, and its size.
@@ -15,25 +16,39 @@ pub fn write(record: &Record, source: &[u8], out: &mut [u8]) -> Result<usize, Re
     }
 }
 
-/// The same for a record as a list of numbers; a short list is refused first, then a number that its field
-/// cannot hold.
+/// The size of the file of a record.
+pub fn write_size(record: &Record, source: &[u8]) -> Result<usize, Refusal> {
+    match check(record, source) {
+        Ok(()) => file_size(record),
+        Err(reason) => refuse(reason, 0),
+    }
+}
+
+/// The same for a record as a list of numbers, whose own refusals come first.
 pub fn write_list(numbers: &[u64], source: &[u8], out: &mut [u8]) -> Result<usize, Refusal> {
-    if numbers.len() < RECORD {
-        return refuse(Reason::BufferTooSmall, 0);
-    }
     match record_of(numbers) {
-        Some(record) => write(&record, source, out),
-        None => refuse(Reason::Inconsistent, 0),
+        Ok(record) => write(&record, source, out),
+        Err(reason) => refuse(reason, 0),
     }
+}
+
+pub fn write_list_size(numbers: &[u64], source: &[u8]) -> Result<usize, Refusal> {
+    match record_of(numbers) {
+        Ok(record) => write_size(&record, source),
+        Err(reason) => refuse(reason, 0),
+    }
+}
+
+/// The size of the file of a record that was judged.
+pub fn file_size(record: &Record) -> Result<usize, Refusal> {
+    Parts::of(record).file_size()
 }
 
 /// Stores a record that was judged.
 pub fn store(record: &Record, source: &[u8], out: &mut [u8]) -> Result<usize, Refusal> {
     let parts = Parts::of(record);
-    if parts.size > MAX_FILE as u64 {
-        return refuse(Reason::FileTooLong, 0);
-    }
-    let Some(free) = out.get_mut(..parts.size as usize) else {
+    let size = parts.file_size()?;
+    let Some(free) = out.get_mut(..size) else {
         return refuse(Reason::BufferTooSmall, 0);
     };
     let mut out = Out { free, source };
@@ -46,7 +61,7 @@ pub fn store(record: &Record, source: &[u8], out: &mut [u8]) -> Result<usize, Re
     }
     out.header(&parts.color);
     out.part(record.data);
-    Ok(parts.size as usize)
+    Ok(size)
 }
 
 /// What follows from a record: its lengths and its headers' bytes. Lengths are in 64 bits: ranges may
@@ -61,7 +76,7 @@ struct Parts {
 
 impl Parts {
     fn of(record: &Record) -> Parts {
-        let alpha = has_alpha(record).then(|| encode(&record.alpha_header));
+        let alpha = record.has_alpha().then(|| encode(&record.alpha_header));
         let color = encode(&record.color_header);
         // A header has at most 16 bytes, and so its length one.
         let headers = alpha.map_or(0, |(_, length)| 1 + length) + 1 + color.1;
@@ -81,10 +96,18 @@ impl Parts {
             size,
         }
     }
+
+    /// The size of the file, if a file may have it.
+    fn file_size(&self) -> Result<usize, Refusal> {
+        if self.size > MAX_FILE as u64 {
+            return refuse(Reason::FileTooLong, 0);
+        }
+        Ok(self.size as usize)
+    }
 }
 
 fn block_size(record: &Record) -> u64 {
-    let sizes = used(record).unwrap_or_default().iter().map(|entry| {
+    let sizes = record.used().unwrap_or_default().iter().map(|entry| {
         let length = u64::from(entry.payload.length);
         ue7_size(entry.tag.into()) + ue7_size(length) + length
     });
@@ -121,7 +144,7 @@ impl Out<'_> {
 
     fn block(&mut self, record: &Record, size: u64) {
         self.ue7(size);
-        for entry in used(record).unwrap_or_default() {
+        for entry in record.used().unwrap_or_default() {
             self.ue7(entry.tag.into());
             self.ue7(entry.payload.length.into());
             self.part(entry.payload);
