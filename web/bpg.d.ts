@@ -1,0 +1,153 @@
+/** Reads, writes and canonicalizes BPG 0.9.5 files, in a page or in node, by the proved library in bpg.wasm. */
+
+/** A part of a file or of a source. */
+export interface ByteRange {
+  start: number;
+  length: number;
+}
+
+/** An extension entry: its tag, and where its payload stands. */
+export interface Entry extends ByteRange {
+  tag: number;
+}
+
+/** A HEVC header, its fields as coded. Fields that are not in the file are 0 or false. */
+export interface HevcHeader {
+  log2MinLumaCodingBlockSizeMinus3: number;
+  log2DiffMaxMinLumaCodingBlockSize: number;
+  log2MinTransformBlockSizeMinus2: number;
+  log2DiffMaxMinTransformBlockSize: number;
+  maxTransformHierarchyDepthIntra: number;
+  sampleAdaptiveOffsetEnabledFlag: boolean;
+  pcmEnabledFlag: boolean;
+  pcmSampleBitDepthLumaMinus1: number;
+  pcmSampleBitDepthChromaMinus1: number;
+  log2MinPcmLumaCodingBlockSizeMinus3: number;
+  log2DiffMaxMinPcmLumaCodingBlockSize: number;
+  pcmLoopFilterDisabledFlag: boolean;
+  strongIntraSmoothingEnabledFlag: boolean;
+  spsExtensionPresentFlag: boolean;
+  spsRangeExtensionFlag: boolean;
+  spsExtension7bits: number;
+  transformSkipRotationEnabledFlag: boolean;
+  transformSkipContextEnabledFlag: boolean;
+  implicitRdpcmEnabledFlag: boolean;
+  explicitRdpcmEnabledFlag: boolean;
+  extendedPrecisionProcessingFlag: boolean;
+  intraSmoothingDisabledFlag: boolean;
+  highPrecisionOffsetsEnabledFlag: boolean;
+  persistentRiceAdaptationEnabledFlag: boolean;
+  cabacBypassAlignmentEnabledFlag: boolean;
+}
+
+/** The record of a file: every field as coded, except the lengths, which follow from the rest. */
+export interface BpgRecord {
+  pixelFormat: number;
+  alpha1Flag: boolean;
+  bitDepthMinus8: number;
+  colorSpace: number;
+  extensionPresentFlag: boolean;
+  alpha2Flag: boolean;
+  limitedRangeFlag: boolean;
+  animationFlag: boolean;
+  pictureWidth: number;
+  pictureHeight: number;
+  /** The file gives the length of its picture data; otherwise that goes up to the end of the file. */
+  explicitLength: boolean;
+  /** The loop numbers are those in the payload of the animation control entry, and 0 without one. */
+  loopCount: number;
+  framePeriodNum: number;
+  framePeriodDen: number;
+  /** The header of the alpha plane, or of W; 0 and false without alpha1Flag and alpha2Flag. */
+  alphaHeader: HevcHeader;
+  colorHeader: HevcHeader;
+  /** The HEVC data, without the headers. */
+  data: ByteRange;
+  entries: Entry[];
+}
+
+/** A record as a file gives it, with its size as HEVC codes it, which may be 2^32. */
+export interface Reading extends BpgRecord {
+  codedWidth: number;
+  codedHeight: number;
+}
+
+/** A call's refusal. */
+export class BpgRefusal extends Error {
+  constructor(status: number, offset?: number);
+  readonly name: 'BpgRefusal';
+  /** The refusal number. */
+  readonly status: number;
+  /** The offset in the file of what was refused; 0 where none is named. */
+  readonly offset: number;
+  /** The name of the number, as 'Truncated'. */
+  readonly reason: string;
+  /** The reason in words. */
+  readonly meaning: string;
+}
+
+/** The tags of entries that have a meaning of their own. */
+export const Tag: Readonly<{ EXIF: 1; ICC_PROFILE: 2; XMP: 3; THUMBNAIL: 4; ANIMATION_CONTROL: 5 }>;
+
+/** The most bytes that a file may have. */
+export const MAX_FILE: number;
+
+/** The most entries that a file may have. */
+export const MAX_ENTRIES: number;
+
+/** That part of the file, as a subarray of the caller's own array. */
+export function part(file: Uint8Array, range: ByteRange): Uint8Array;
+
+/** The library. `source` is where bpg.wasm is: nothing for the one beside bpg.mjs, a URL, its bytes, or a compiled module. */
+export function load(source?: URL | string | Response | ArrayBuffer | ArrayBufferView | WebAssembly.Module): Promise<Bpg>;
+
+/** The calls. Each throws a BpgRefusal where it refuses, a TypeError for an argument that is none, and a RangeError where the module's memory
+ *  cannot grow. A call that is lent an array `out` writes its answer to the start of it and returns that part; a refusal leaves it as it was. */
+export class Bpg {
+  constructor(instance: WebAssembly.Instance);
+
+  /** The record of a file. */
+  read(file: Uint8Array): Reading;
+
+  /** The entries of a file in their order, each with its payload as a subarray; none for a refused file. */
+  entries(file: Uint8Array): (Entry & { payload: Uint8Array })[];
+
+  /** The entry with index k, from 0; null past the last one and for a refused file. */
+  entry(file: Uint8Array, k: number): Entry | null;
+
+  /** The payload of the entry with index k as a subarray; an empty one past the last entry and for a refused file. */
+  payload(file: Uint8Array, k: number): Uint8Array;
+
+  /** The HEVC data of a file as a subarray; an empty one for a refused file. */
+  data(file: Uint8Array): Uint8Array;
+
+  /** The file of a record, whose ranges are in `source`. */
+  write(record: BpgRecord, source: Uint8Array, out?: Uint8Array): Uint8Array;
+
+  /** How many bytes the file of a record has. */
+  writeSize(record: BpgRecord, source: Uint8Array): number;
+
+  /** The canonical form of a file: never longer than it, and equal for two files exactly when they show the same picture. */
+  canonicalize(file: Uint8Array, out?: Uint8Array): Uint8Array;
+
+  /** How many bytes the canonical form of a file has. */
+  canonicalSize(file: Uint8Array): number;
+
+  /** How many frames a file has. */
+  frameCount(file: Uint8Array): number;
+
+  /** For how many frame periods each frame of a file is shown. A period is framePeriodNum / framePeriodDen seconds. */
+  frames(file: Uint8Array): Uint16Array;
+
+  /** Refuses a file whose thumbnails, or theirs at any level, are not files that are smaller than their parents. */
+  checkThumbnails(file: Uint8Array): void;
+
+  /** Reads the files that stand end to end in a buffer and have these lengths: for each its refusal, or null where it is accepted. */
+  batch(buffer: Uint8Array, lengths: ArrayLike<number>): (BpgRefusal | null)[];
+
+  /** The bytes of a NAL unit without its emulation prevention bytes. */
+  unescape(unit: Uint8Array, out?: Uint8Array): Uint8Array;
+
+  /** The bytes with emulation prevention bytes, as they stand in a NAL unit. */
+  escape(bytes: Uint8Array, out?: Uint8Array): Uint8Array;
+}

@@ -1,0 +1,269 @@
+// Reads, writes and canonicalizes BPG 0.9.5 files, in a page or in node, by bpg.wasm: the library whose every answer is proved.
+//
+//     import { load, part } from './bpg.mjs';
+//     const bpg = await load();
+//     const record = bpg.read(file);                      // file: a Uint8Array; throws a BpgRefusal where it is refused
+//     kernel(part(file, record.entries[0]));              // a subarray of the caller's own array: no copy
+//
+// A call copies what it is given into the module's memory, and what it answers out of it: arrays of the caller are only ever written where
+// a call is lent one to write into. A refused call leaves it as it was.
+
+import { behind, Memory } from './memory.mjs';
+import { dataOf, entriesOf, MAX_NUMBERS, put, recordOf } from './record.mjs';
+import { BpgRefusal } from './refusal.mjs';
+
+export { MAX_ENTRIES } from './record.mjs';
+export { BpgRefusal };
+
+/** The tags of entries that have a meaning of their own. */
+export const Tag = Object.freeze({ EXIF: 1, ICC_PROFILE: 2, XMP: 3, THUMBNAIL: 4, ANIMATION_CONTROL: 5 });
+
+/** The most bytes that a file may have. */
+export const MAX_FILE = 16777216;
+
+/** That part of the file, as a subarray of the caller's own array. `range` is an entry of a record, or its data. */
+export const part = (file, range) => file.subarray(range.start, range.start + range.length);
+
+/** The library. `source` is where bpg.wasm is: nothing for the one beside this file, a URL, its bytes, or a compiled WebAssembly.Module. */
+export async function load(source = new URL('bpg.wasm', import.meta.url)) {
+  const module = source instanceof WebAssembly.Module ? source : await WebAssembly.compile(await moduleBytes(source));
+  return new Bpg(await WebAssembly.instantiate(module, {}));
+}
+
+async function moduleBytes(source) {
+  if (source instanceof ArrayBuffer || ArrayBuffer.isView(source)) return source;
+  if (String(source).startsWith('file:') && globalThis.process?.versions?.node) {
+    const { readFile } = await import('node:fs/promises');
+    return readFile(new URL(source));
+  }
+  const response = source instanceof Response ? source : await fetch(source);
+  if (!response.ok) throw new Error(`bpg.wasm could not be fetched: ${response.status} ${response.statusText}`);
+  return response.arrayBuffer();
+}
+
+const NO_RANGE = { start: 0, length: 0 };
+const LIST_LENGTH = BigInt(MAX_NUMBERS);
+
+function checkBytes(value, what) {
+  if (!ArrayBuffer.isView(value) || value[Symbol.toStringTag] !== 'Uint8Array') throw new TypeError(`${what} is not a Uint8Array`);
+  // A detached array looks like an empty one; only a new view of its buffer tells.
+  if (value.length === 0) new Uint8Array(value.buffer);
+}
+
+function checkLength(length) {
+  if (!Number.isSafeInteger(length) || length < 0 || length >= 2 ** 32) throw new TypeError('a length is a whole number from 0 to 2^32 - 1');
+  return length;
+}
+
+// A file that is too long is refused for its length alone, so that its first bytes, one more than a file may have, have the same answer.
+function fileBytes(file) {
+  checkBytes(file, 'the file');
+  return file.length > MAX_FILE ? file.subarray(0, MAX_FILE + 1) : file;
+}
+
+export class Bpg {
+  #calls;
+  #memory;
+  #stackTop;
+
+  constructor(instance) {
+    this.#calls = instance.exports;
+    this.#memory = new Memory(this.#calls.memory, this.#calls.__heap_base.value, MAX_NUMBERS);
+    this.#stackTop = this.#calls.__stack_pointer.value;
+  }
+
+  /** The record of a file. */
+  read(file) {
+    this.#accepted(this.#readList(file), this.#memory.result(0));
+    return recordOf(this.#memory.words, this.#memory.list / 4);
+  }
+
+  /** The entries of a file in their order, each with its payload as a subarray; none for a refused file. */
+  entries(file) {
+    if (this.#readList(file) !== 0) return [];
+    const entries = entriesOf(this.#memory.words, this.#memory.list / 4);
+    return entries.map((entry) => ({ ...entry, payload: part(file, entry) }));
+  }
+
+  /** The entry with index k, from 0; null past the last one and for a refused file. */
+  entry(file, k) {
+    if (!Number.isSafeInteger(k) || k < 0) throw new TypeError('the index of an entry is a whole number from 0 on');
+    const bytes = fileBytes(file);
+    this.#put(bytes);
+    const { room, results } = this.#memory;
+    const found = this.#calls.bpg_entry(room, BigInt(bytes.length), BigInt(k), results, results + 4, results + 8);
+    if ((found & 0xff) === 0) return null;
+    const [tag, start, length] = this.#memory.words.subarray(results / 4, results / 4 + 3);
+    return { tag, start, length };
+  }
+
+  /** The payload of the entry with index k as a subarray; an empty one past the last entry and for a refused file. */
+  payload(file, k) {
+    return part(file, this.entry(file, k) ?? NO_RANGE);
+  }
+
+  /** The HEVC data of a file as a subarray; an empty one for a refused file. */
+  data(file) {
+    const accepted = this.#readList(file) === 0;
+    return part(file, accepted ? dataOf(this.#memory.words, this.#memory.list / 4) : NO_RANGE);
+  }
+
+  /** The file of a record, shaped as `read` gives it, whose ranges are in `source`: a new array, or the start of `out`. */
+  write(record, source, out) {
+    if (out !== undefined) checkBytes(out, 'the buffer');
+    const numbers = this.#putRecord(record, source);
+    const memory = this.#memory;
+    const length = out === undefined ? this.#sizeOf(numbers, source) : Math.min(out.length, MAX_FILE);
+    const at = behind(memory.room, source.length);
+    memory.hold(at + length);
+    const status = this.#calls.bpg_write(memory.list, numbers, memory.room, BigInt(source.length), at, BigInt(length), memory.results);
+    return this.#written(status & 0xff, 0, at, out);
+  }
+
+  /** How many bytes the file of a record has. */
+  writeSize(record, source) {
+    return this.#sizeOf(this.#putRecord(record, source), source);
+  }
+
+  /** The canonical form of a file: a new array, or the start of `out`. It is never longer than the file, and two files show the same picture
+   *  exactly when their canonical forms are equal. */
+  canonicalize(file, out) {
+    const bytes = fileBytes(file);
+    if (out !== undefined) checkBytes(out, 'the buffer');
+    const length = Math.min(out?.length ?? bytes.length, bytes.length);
+    const at = this.#put(bytes, length);
+    const { room, results } = this.#memory;
+    const status = this.#calls.bpg_canonicalize(room, BigInt(bytes.length), at, BigInt(length), results, results + 8);
+    return this.#written(status & 0xff, this.#memory.result(1), at, out);
+  }
+
+  /** How many bytes the canonical form of a file has. */
+  canonicalSize(file) {
+    const bytes = fileBytes(file);
+    this.#put(bytes);
+    const { room, results } = this.#memory;
+    const status = this.#calls.bpg_canonical_size(room, BigInt(bytes.length), results, results + 8);
+    this.#accepted(status & 0xff, this.#memory.result(1));
+    return this.#memory.result(0);
+  }
+
+  /** How many frames a file has. */
+  frameCount(file) {
+    return this.#countFrames(fileBytes(file));
+  }
+
+  /** For how many frame periods each frame of a file is shown. A period is framePeriodNum / framePeriodDen seconds. */
+  frames(file) {
+    const bytes = fileBytes(file);
+    const count = this.#countFrames(bytes);
+    const { room, results } = this.#memory;
+    const at = behind(room, bytes.length);
+    this.#memory.hold(at + 2 * count);
+    const status = this.#calls.bpg_frames(room, BigInt(bytes.length), at, BigInt(count), results, results + 8);
+    this.#accepted(status & 0xff, this.#memory.result(1));
+    return new Uint16Array(this.#memory.bytes.slice(at, at + 2 * count).buffer);
+  }
+
+  /** Refuses a file whose thumbnails, or theirs at any level, are not files that are smaller than their parents. */
+  checkThumbnails(file) {
+    const bytes = fileBytes(file);
+    this.#put(bytes);
+    const { room, results } = this.#memory;
+    const status = this.#calls.bpg_check_thumbnails(room, BigInt(bytes.length), results);
+    this.#accepted(status & 0xff, this.#memory.result(0));
+  }
+
+  /** Reads the files that stand end to end in a buffer and have these lengths: for each its refusal, or null where it is accepted. */
+  batch(buffer, lengths) {
+    checkBytes(buffer, 'the buffer');
+    const count = lengths.length;
+    const lengthsAt = this.#put(buffer, 4 * count);
+    const statusesAt = behind(lengthsAt, 4 * count);
+    const offsetsAt = behind(statusesAt, count);
+    const memory = this.#memory;
+    memory.hold(offsetsAt + 4 * count);
+    for (let k = 0; k < count; k++) memory.words[lengthsAt / 4 + k] = checkLength(lengths[k]);
+    const size = BigInt(count);
+    const status = this.#calls.bpg_batch(memory.room, BigInt(buffer.length), lengthsAt, size, statusesAt, size, offsetsAt, size);
+    this.#accepted(status & 0xff, 0);
+    const refusal = (number, k) => (number === 0 ? null : new BpgRefusal(number, memory.words[offsetsAt / 4 + k]));
+    return Array.from(memory.bytes.subarray(statusesAt, statusesAt + count), refusal);
+  }
+
+  /** The bytes of a NAL unit without its emulation prevention bytes: a new array, or the start of `out`. */
+  unescape(unit, out) {
+    return this.#copied('bpg_unescape', unit, (length) => length, out);
+  }
+
+  /** The bytes with emulation prevention bytes, as they stand in a NAL unit: a new array, or the start of `out`. */
+  escape(bytes, out) {
+    // At most one byte is put in for every two, and one at the end.
+    return this.#copied('bpg_escape', bytes, (length) => length + Math.floor(length / 2) + 1, out);
+  }
+
+  #readList(file) {
+    const bytes = fileBytes(file);
+    this.#put(bytes);
+    const { room, list, results } = this.#memory;
+    return this.#calls.bpg_read(room, BigInt(bytes.length), list, LIST_LENGTH, results) & 0xff;
+  }
+
+  // Puts a record's list and its source into the memory, and answers how many numbers the list has.
+  #putRecord(record, source) {
+    checkBytes(source, 'the source');
+    const numbers = put(record, this.#memory.words, this.#memory.list / 4);
+    this.#put(source);
+    return BigInt(numbers);
+  }
+
+  #sizeOf(numbers, source) {
+    const { list, room, results } = this.#memory;
+    const status = this.#calls.bpg_write_size(list, numbers, room, BigInt(source.length), results);
+    this.#accepted(status & 0xff, 0);
+    return this.#memory.result(0);
+  }
+
+  #countFrames(bytes) {
+    this.#put(bytes);
+    const { room, results } = this.#memory;
+    const status = this.#calls.bpg_frame_count(room, BigInt(bytes.length), results, results + 8);
+    this.#accepted(status & 0xff, this.#memory.result(1));
+    return this.#memory.result(0);
+  }
+
+  // `longest` gives the most bytes that the call answers for so many.
+  #copied(call, bytes, longest, out) {
+    checkBytes(bytes, 'the argument');
+    if (out !== undefined) checkBytes(out, 'the buffer');
+    const most = longest(bytes.length);
+    const length = Math.min(out?.length ?? most, most);
+    const at = this.#put(bytes, length);
+    const { room, results } = this.#memory;
+    const status = this.#calls[call](room, BigInt(bytes.length), at, BigInt(length), results);
+    return this.#written(status & 0xff, 0, at, out);
+  }
+
+  // Puts the bytes into the room, with space for so many more behind them, and answers the address of that space.
+  #put(bytes, more = 0) {
+    // A call that was cut off, where JavaScript's own stack ran out, has left the module's stack in use.
+    this.#calls.__stack_pointer.value = this.#stackTop;
+    const memory = this.#memory;
+    const at = behind(memory.room, bytes.length);
+    memory.hold(at + more);
+    memory.bytes.set(bytes, memory.room);
+    return at;
+  }
+
+  #accepted(status, offset) {
+    if (status !== 0) throw new BpgRefusal(status, offset);
+  }
+
+  // The bytes that a call wrote at this address, their count being its first result, for the caller.
+  #written(status, offset, at, out) {
+    this.#accepted(status, offset);
+    const bytes = this.#memory.bytes.subarray(at, at + this.#memory.result(0));
+    if (out === undefined) return bytes.slice();
+    out.set(bytes);
+    return out.subarray(0, bytes.length);
+  }
+}

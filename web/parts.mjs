@@ -1,0 +1,73 @@
+// What the parts and the numbers of a file are called, and where its parts stand.
+
+const TAGS = { 1: 'EXIF', 2: 'ICC profile', 3: 'XMP', 4: 'thumbnail', 5: 'animation' };
+export const tagName = (tag) => TAGS[tag] ?? `tag ${tag}`;
+
+const PIXEL_FORMATS = [
+  'grayscale',
+  '4:2:0, JPEG chroma position',
+  '4:2:2, JPEG chroma position',
+  '4:4:4',
+  '4:2:0, MPEG2 chroma position',
+  '4:2:2, MPEG2 chroma position',
+];
+const COLOR_SPACES = ['YCbCr, BT 601', 'RGB', 'YCgCo', 'YCbCr, BT 709', 'YCbCr, BT 2020'];
+
+function alphaName({ alpha1Flag, alpha2Flag }) {
+  if (alpha1Flag) return alpha2Flag ? 'yes, color premultiplied' : 'yes';
+  return alpha2Flag ? 'W plane (CMYK)' : 'none';
+}
+
+/** The particulars of a record, as pairs of a name and words. */
+export function particulars(record) {
+  return [
+    ['Size', `${record.pictureWidth} × ${record.pictureHeight}`],
+    ['Coded size', `${record.codedWidth} × ${record.codedHeight}`],
+    ['Pixel format', PIXEL_FORMATS[record.pixelFormat]],
+    ['Bit depth', String(record.bitDepthMinus8 + 8)],
+    ['Color space', record.pixelFormat === 0 ? 'gray' : COLOR_SPACES[record.colorSpace]],
+    ['Alpha', alphaName(record)],
+    ['Range', record.limitedRangeFlag ? 'limited' : 'full'],
+    ['Kind', record.animationFlag ? 'animated' : 'still'],
+    ['Data', `at ${record.data.start}, ${bytesText(record.data.length)}`],
+    ['Data length', record.explicitLength ? 'given in the file' : 'up to the end of the file'],
+  ];
+}
+
+export const bytesText = (count) => `${count.toLocaleString('en')} ${count === 1 ? 'byte' : 'bytes'}`;
+
+/** Seconds in words. */
+export function timeText(seconds) {
+  const rounded = (value) => String(Math.round(value * 1000) / 1000);
+  if (seconds < 60) return seconds < 0.001 ? `${Number(seconds.toPrecision(2))} s` : `${rounded(seconds)} s`;
+  return `${Math.floor(seconds / 60)} min ${rounded(seconds % 60)} s`;
+}
+
+// The offset after the ue7 number at this one, in a file that was accepted.
+function afterNumber(file, at) {
+  while (file[at] >= 0x80) at++;
+  return at + 1;
+}
+
+/** The parts of an accepted file in order, each with kind, name, start and length: together they are the file. */
+export function fileParts(file, record) {
+  const parts = [];
+  let at = 0;
+  const upTo = (end, kind, name) => {
+    if (end > at) parts.push({ kind, name, start: at, length: end - at });
+    at = end;
+  };
+  let head = 6;
+  for (let numbers = record.extensionPresentFlag ? 4 : 3; numbers > 0; numbers--) head = afterNumber(file, head);
+  upTo(head, 'head', 'head');
+  for (const { tag, start, length } of record.entries) {
+    upTo(start, 'entry-head', `entry head of ${tagName(tag)}`);
+    upTo(start + length, 'payload', `payload of ${tagName(tag)}`);
+  }
+  upTo(record.data.start, 'headers', 'HEVC headers');
+  upTo(record.data.start + record.data.length, 'data', 'HEVC data');
+  return parts;
+}
+
+/** The kinds of parts in their order, with the name of all parts of a kind. */
+export const KINDS = { head: 'head', 'entry-head': 'entry heads', payload: 'payloads', headers: 'HEVC headers', data: 'HEVC data' };

@@ -1,0 +1,150 @@
+/* Answers cases with the native library, for native.mjs: calls from standard input, answers to standard output, as raw.mjs has them. A call is
+ * its number, one byte, then its values (8 bytes) and lists (4 bytes for the count, then the elements). An answer is the status, then results
+ * and the lists that may be written, in the order of the parameters. Results begin as all ones. */
+#include "../../include/bpg.h"
+
+#include <stdio.h>
+#include <stdlib.h>
+
+struct list {
+    void *at;
+    size_t count, size;
+};
+
+static void get(void *to, size_t size) {
+    if (size != 0 && fread(to, size, 1, stdin) != 1) exit(2);
+}
+
+static void put(const void *from, size_t size) {
+    if (size != 0 && fwrite(from, size, 1, stdout) != 1) exit(2);
+}
+
+static size_t get_value(void) {
+    uint64_t value;
+    get(&value, sizeof value);
+    return value;
+}
+
+/* malloc, and not one buffer for all, so that a sanitizer would see an access outside a list. */
+static struct list get_list(size_t size) {
+    uint32_t count;
+    get(&count, sizeof count);
+    struct list list = {malloc(count * size + 1), count, size};
+    if (list.at == NULL) exit(2);
+    get(list.at, count * size);
+    return list;
+}
+
+static void put_list(struct list list) {
+    put(list.at, list.count * list.size);
+}
+
+/* What a call has: its lists, which are kept until it is answered, its status and its results. */
+static struct list a, b, c, d;
+static uint8_t status;
+static size_t first, second;
+
+static void put_status(void) {
+    put(&status, sizeof status);
+}
+
+static void put_first(void) {
+    put(&first, sizeof first);
+}
+
+static void put_both(void) {
+    put_first(), put(&second, sizeof second);
+}
+
+static void read_file(void) {
+    a = get_list(1), b = get_list(8);
+    status = bpg_read(a.at, a.count, b.at, b.count, &first);
+    put_status(), put_list(b), put_first();
+}
+
+static void entry(void) {
+    uint32_t tag = UINT32_MAX, start = UINT32_MAX, length = UINT32_MAX;
+    a = get_list(1);
+    status = bpg_entry(a.at, a.count, get_value(), &tag, &start, &length);
+    put_status(), put(&tag, sizeof tag), put(&start, sizeof start), put(&length, sizeof length);
+}
+
+static void write_file(void) {
+    a = get_list(8), b = get_list(1), c = get_list(1);
+    status = bpg_write(a.at, a.count, b.at, b.count, c.at, c.count, &first);
+    put_status(), put_list(c), put_first();
+}
+
+static void canonicalize(void) {
+    a = get_list(1), b = get_list(1);
+    status = bpg_canonicalize(a.at, a.count, b.at, b.count, &first, &second);
+    put_status(), put_list(b), put_both();
+}
+
+static void frames(void) {
+    a = get_list(1), b = get_list(2);
+    status = bpg_frames(a.at, a.count, b.at, b.count, &first, &second);
+    put_status(), put_list(b), put_both();
+}
+
+static void frame_count(void) {
+    a = get_list(1);
+    status = bpg_frame_count(a.at, a.count, &first, &second);
+    put_status(), put_both();
+}
+
+static void check_thumbnails(void) {
+    a = get_list(1);
+    status = bpg_check_thumbnails(a.at, a.count, &first);
+    put_status(), put_first();
+}
+
+static void batch(void) {
+    a = get_list(1), b = get_list(4), c = get_list(1), d = get_list(4);
+    status = bpg_batch(a.at, a.count, b.at, b.count, c.at, c.count, d.at, d.count);
+    put_status(), put_list(c), put_list(d);
+}
+
+static void unescape(void) {
+    a = get_list(1), b = get_list(1);
+    status = bpg_unescape(a.at, a.count, b.at, b.count, &first);
+    put_status(), put_list(b), put_first();
+}
+
+static void escape(void) {
+    a = get_list(1), b = get_list(1);
+    status = bpg_escape(a.at, a.count, b.at, b.count, &first);
+    put_status(), put_list(b), put_first();
+}
+
+static void write_size(void) {
+    a = get_list(8), b = get_list(1);
+    status = bpg_write_size(a.at, a.count, b.at, b.count, &first);
+    put_status(), put_first();
+}
+
+static void canonical_size(void) {
+    a = get_list(1);
+    status = bpg_canonical_size(a.at, a.count, &first, &second);
+    put_status(), put_both();
+}
+
+/* In the order of SIGNATURES in raw.mjs. */
+static void (*const calls[])(void) = {
+    read_file, entry, write_file, canonicalize, frames, frame_count, check_thumbnails, batch, unescape, escape, write_size,
+    canonical_size,
+};
+
+int main(void) {
+    struct list *lists[] = {&a, &b, &c, &d};
+    for (int number; (number = getchar()) != EOF;) {
+        if ((size_t)number >= sizeof calls / sizeof *calls) return 2;
+        first = second = SIZE_MAX;
+        calls[number]();
+        for (size_t k = 0; k < 4; k++) {
+            free(lists[k]->at);
+            lists[k]->at = NULL;
+        }
+    }
+    return 0;
+}

@@ -1,0 +1,154 @@
+// The vectors, by the calls as they are (every byte of each buffer) and by bpg.mjs.
+import { readFileSync } from 'node:fs';
+import { gunzipSync } from 'node:zlib';
+import { BpgRefusal, load, MAX_ENTRIES } from '../bpg.mjs';
+import { Raw } from './raw.mjs';
+
+const raw = new Raw();
+const bpg = await load();
+const counts = {};
+let bad = 0;
+
+function same(what, got, want) {
+  counts[what] = (counts[what] ?? 0) + 1;
+  if (got === want) return;
+  bad++;
+  if (bad <= 5) console.log(`${what} differs\n  got  ${got}\n  want ${want}`);
+}
+
+const lines = (name) =>
+  gunzipSync(readFileSync(new URL(`../vectors/${name}.gz`, import.meta.url)))
+    .toString()
+    .split('\n')
+    .filter((line) => line !== '');
+const bytes = (hex) => Uint8Array.from(hex === '-' ? [] : Buffer.from(hex, 'hex'));
+const hex = (array) => Buffer.from(array).toString('hex');
+const numbers = (text) => (text === '-' ? [] : text.split(',').map(Number));
+const filled = (length) => new Uint8Array(length).fill(0xa5);
+
+/** What the call answers, or its refusal as `status at offset`. */
+function answer(call, show) {
+  try {
+    return show(call());
+  } catch (refusal) {
+    if (!(refusal instanceof BpgRefusal)) throw refusal;
+    return `${refusal.status} at ${refusal.offset}`;
+  }
+}
+
+function headerText(header) {
+  const fields = Object.values(header).map(Number);
+  return `${fields.slice(0, 16)},${fields.slice(16).join('')}`;
+}
+
+function recordText(r) {
+  const alpha = [['none', 'white'], ['plain', 'premultiplied']][Number(r.alpha1Flag)][Number(r.alpha2Flag)];
+  const entries = r.entries.map(({ tag, start, length }) => `${tag}@${start}+${length}`).join(' ');
+  return (
+    `size ${r.pictureWidth}x${r.pictureHeight} format ${r.pixelFormat} depth ${r.bitDepthMinus8 + 8} space ${r.colorSpace} alpha ${alpha} ` +
+    `range ${r.limitedRangeFlag ? 'limited' : 'full'} ${r.animationFlag ? 'animated' : 'still'} ext ${r.entries.length} data ${r.data.length} | ` +
+    `coded ${r.codedWidth}x${r.codedHeight} counted ${Number(r.explicitLength)} loop ${r.loopCount} ${r.framePeriodNum}/${r.framePeriodDen} ` +
+    `data ${r.data.start}+${r.data.length} entries [${entries}] h0 ${headerText(r.alphaHeader)} h1 ${headerText(r.colorHeader)}`
+  );
+}
+
+function read(line) {
+  const [file, want] = [bytes(line.split(' ', 1)[0]), line.slice(line.indexOf(' ') + 1)];
+  same('read', answer(() => bpg.read(file), recordText).replace(/^(?=\d)/, 'refused '), want);
+  const entries = [...want.matchAll(/(\d+)@(\d+)\+(\d+)/g)].map(([text]) => text).join(' ');
+  const cut = ({ tag, start, length }) => `${tag}@${start}+${length}`;
+  same('entries', bpg.entries(file).map(cut).join(' '), entries);
+  const data = want.match(/data (\d+)\+(\d+) /);
+  same('data', hex(bpg.data(file)), data === null ? '' : hex(file.subarray(Number(data[1]), Number(data[1]) + Number(data[2]))));
+  bpg.entries(file).forEach((entry, k) => {
+    same('entry', cut(bpg.entry(file, k)), cut(entry));
+    same('payload', hex(bpg.payload(file, k)), hex(file.subarray(entry.start, entry.start + entry.length)));
+  });
+}
+
+function canonical(line) {
+  const [file, form] = line.split(' ').map(bytes);
+  same('canonicalize', hex(bpg.canonicalize(file)), hex(form));
+  same('canonicalSize', bpg.canonicalSize(file), form.length);
+  const roomy = raw.call('bpg_canonicalize', file, filled(file.length));
+  same('canonicalize', `${roomy.status} ${roomy.results} ${hex(roomy.lists[0])}`, `0 ${form.length},0 ${hex(form)}${'a5'.repeat(file.length - form.length)}`);
+  const tight = raw.call('bpg_canonicalize', file, filled(form.length - 1));
+  same('canonicalize', `${tight.status} ${tight.results} ${hex(tight.lists[0])}`, `20 0,0 ${'a5'.repeat(form.length - 1)}`);
+  const lent = filled(form.length - 1);
+  same('canonicalize', answer(() => bpg.canonicalize(file, lent), hex) + hex(lent), `20 at 0${'a5'.repeat(form.length - 1)}`);
+}
+
+const camel = (name) => name.replace(/_(.)/g, (_, letter) => letter.toUpperCase());
+
+/** The record of a vector, shaped as `read` gives it. Unused entries that are not zero have no place in it. */
+function recordFrom(r) {
+  const range = ['transformSkipRotationEnabledFlag', 'transformSkipContextEnabledFlag', 'implicitRdpcmEnabledFlag', 'explicitRdpcmEnabledFlag'];
+  range.push('extendedPrecisionProcessingFlag', 'intraSmoothingDisabledFlag', 'highPrecisionOffsetsEnabledFlag');
+  range.push('persistentRiceAdaptationEnabledFlag', 'cabacBypassAlignmentEnabledFlag');
+  const header = ({ range_flags, ...fields }) =>
+    Object.fromEntries([...Object.entries(fields).map(([name, field]) => [camel(name), field]), ...range.map((name, k) => [name, range_flags[k]])]);
+  const [alphaHeader, colorHeader] = r.headers.map(header);
+  const entries = r.entries.slice(0, r.entry_count).map(([tag, start, length]) => ({ tag, start, length }));
+  // Above the limit any count is refused alike.
+  while (entries.length < Math.min(r.entry_count, MAX_ENTRIES + 1)) entries.push({ tag: 0, start: 0, length: 0 });
+  return {
+    ...{ pixelFormat: r.pixel_format, alpha1Flag: r.alpha1, bitDepthMinus8: r.bit_depth_minus_8, colorSpace: r.color_space },
+    ...{ extensionPresentFlag: r.extension, alpha2Flag: r.alpha2, limitedRangeFlag: r.limited_range, animationFlag: r.animation },
+    ...{ pictureWidth: r.width, pictureHeight: r.height, explicitLength: r.counted, loopCount: r.loop_count },
+    ...{ framePeriodNum: r.period_num, framePeriodDen: r.period_den, alphaHeader, colorHeader },
+    ...{ data: { start: r.data_start, length: r.data_length }, entries },
+  };
+}
+
+function write(line) {
+  const { record, source, room_size, answer: [status, , count], room } = JSON.parse(line);
+  if (record.entries.slice(record.entry_count).some((entry) => entry.some((number) => number !== 0))) return;
+  const out = filled(room_size);
+  const got = answer(() => bpg.write(recordFrom(record), bytes(source), out), (written) => `0 ${written.length}`);
+  const size = answer(() => bpg.writeSize(recordFrom(record), bytes(source)), (length) => (length > room_size ? '20 at 0' : `0 ${length}`));
+  same('writeSize', size, got);
+  same('write', `${got} ${hex(out)}`, `${status === 0 ? `0 ${count}` : `${status} at 0`} ${room}`);
+}
+
+function frames(line) {
+  const [, file, length, status, offset, count, list] = line.match(/^(\S+) (\d+) => (\d+) at (\d+) count (\d+) list (\S*)$/);
+  const got = raw.call('bpg_frames', bytes(file), new Uint16Array(Number(length)).fill(9999));
+  same('frames', `${got.status} ${got.results} ${got.lists[0].join() || '-'}`, `${status} ${count},${offset} ${list || '-'}`);
+  const wanted = numbers(list || '-').slice(0, Number(count));
+  if (status !== '20') same('frames', answer(() => bpg.frames(bytes(file)), (all) => all.join()), status === '0' ? wanted.join() : `${status} at ${offset}`);
+  if (status !== '20') same('frameCount', answer(() => bpg.frameCount(bytes(file)), String), status === '0' ? count : `${status} at ${offset}`);
+}
+
+function deep(line) {
+  const [, file, status, offset] = line.match(/^(\S+) => (\d+) at (\d+)$/);
+  same('checkThumbnails', answer(() => bpg.checkThumbnails(bytes(file)), () => '0 at 0'), `${status} at ${offset}`);
+}
+
+function batch(line) {
+  const form = /^(\S+) lengths (\S+) lists (\d+),(\d+) => (\d+) at 0 count \d+ numbers (\S+) places (\S+)$/;
+  const [, buffer, lengths, first, second, status, statuses, offsets] = line.match(form);
+  const lists = [new Uint8Array(Number(first)).fill(99), new Uint32Array(Number(second)).fill(999)];
+  const got = raw.call('bpg_batch', bytes(buffer), Uint32Array.from(numbers(lengths)), ...lists);
+  same('batch', `${got.status} ${got.lists[0].join() || '-'} ${got.lists[1].join() || '-'}`, `${status} ${statuses} ${offsets}`);
+  if (first !== second || Number(first) !== numbers(lengths).length) return;
+  const show = (files) => files.map((refusal) => `${refusal?.status ?? 0}@${refusal?.offset ?? 0}`).join();
+  const wanted = numbers(statuses).map((number, k) => `${number}@${numbers(offsets)[k]}`).join();
+  same('batch', answer(() => bpg.batch(bytes(buffer), numbers(lengths)), show), status === '0' ? wanted : `${status} at 0`);
+}
+
+function nal(line) {
+  const [, unit, keeps, undone, redone] = line.match(/^(\S+) keeps ([01]) undone (\S+) redone (\S+)$/);
+  same('unescape', answer(() => bpg.unescape(bytes(unit)), hex), keeps === '1' ? undone.replace('-', '') : '22 at 0');
+  same('escape', hex(bpg.escape(bytes(undone))), redone.replace('-', ''));
+}
+
+lines('read.txt').forEach(read);
+lines('canonical.txt').forEach(canonical);
+lines('write.jsonl').forEach(write);
+lines('frames.txt').forEach(frames);
+lines('deep.txt').forEach(deep);
+lines('batch.txt').forEach(batch);
+lines('nal.txt').forEach(nal);
+const total = Object.values(counts).reduce((sum, count) => sum + count, 0);
+console.log(`vectors: ${total} answers (${Object.entries(counts).map(([name, count]) => `${name} ${count}`).join(', ')}), ${bad} differ`);
+process.exit(bad === 0 ? 0 : 1);
