@@ -1,0 +1,2 @@
+-- Default colour from W.
+pub mod Shifts

@@ -1,0 +1,3 @@
+-- Limited luma by a table.
+pub mod Tables
+pub mod Requirements

@@ -1,0 +1,3 @@
+-- Premultiplied colour recovered.
+pub mod Quotients
+pub mod Reciprocals

@@ -1,0 +1,3 @@
+-- Premultiplied colour recovered: the inner steps.
+pub mod Reciprocal
+pub mod Given

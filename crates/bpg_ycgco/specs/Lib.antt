@@ -1,0 +1,2 @@
+-- YCgCo.
+pub mod Given
