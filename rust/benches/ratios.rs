@@ -4,6 +4,7 @@
 #[path = "../tests/plain/mod.rs"]
 #[allow(dead_code, unused_imports)]
 mod plain;
+mod planes;
 mod race;
 #[path = "../tests/cases/random.rs"]
 #[allow(dead_code)]
@@ -74,6 +75,7 @@ fn main() {
         reading_sizes()
     );
     println!("A batch of 60 files takes {batched:.2} of the time of 60 calls of `bpg_read`.");
+    planes::run();
 }
 
 fn reading(entries: usize, alpha: bool) {

@@ -55,6 +55,7 @@ mod number;
 mod read;
 mod record;
 mod refusal;
+pub mod samples;
 mod span;
 mod thumbnails;
 mod write;

@@ -63,6 +63,9 @@ reasons! {
     28 BadThumbnail "a thumbnail is itself refused",
     29 LargeThumbnail "a thumbnail is wider or taller than its parent, or of its size",
     30 BadBatch "the lengths do not add up to the buffer, or the lists differ in length",
+    31 UnequalLengths "the planes and buffers of samples differ in length",
+    32 BadSampleDepth "the depth of the samples is not 8 to 14",
+    33 SampleTooLarge "a sample is above the largest of its depth",
 }
 
 impl Reason {

@@ -2,8 +2,8 @@
 //! slices a run.
 //!
 //! `BPG_SEED` gives another run; `BPG_FILES`, `BPG_RECORDS`, `BPG_FRAMED` (files whose data is made of units,
-//! for the calls on frames), `BPG_SLICES` (for emulation prevention), `BPG_NESTED` (files with thumbnails) and
-//! `BPG_BATCHES` another number of cases. A difference fails the test and prints the case and both answers.
+//! for the calls on frames), `BPG_SLICES` (for emulation prevention), `BPG_NESTED` (files with thumbnails),
+//! `BPG_BATCHES` and `BPG_SAMPLES` another number of cases. A difference fails the test and prints the case and both answers.
 
 mod cases;
 mod held;
@@ -12,8 +12,8 @@ mod plain;
 use std::env;
 use std::thread;
 
-use cases::{batches, large, nested, records, Random};
-use held::{Buffers, Cases, Statuses, Table, BATCH_STATUSES, THUMBNAIL_STATUSES};
+use cases::{batches, large, nested, records, samples, Random};
+use held::{Buffers, Cases, Statuses, Table, BATCH_STATUSES, SAMPLE_STATUSES, THUMBNAIL_STATUSES};
 
 const THREADS: u64 = 2;
 
@@ -82,6 +82,27 @@ fn the_batch_agrees_with_plain_rust() {
     println!("{statuses}\n{batches} batches, and some large");
     let rare = statuses.rare(100);
     assert!(rare.is_empty(), "met fewer than 100 times: {rare:?}");
+}
+
+#[test]
+fn the_calls_on_samples_agree_with_plain_rust() {
+    let seed = setting("BPG_SEED", 20_150_425);
+    let cases = setting("BPG_SAMPLES", 400_000);
+    let mut random = Random::new(seed.wrapping_add(THREADS + 3));
+    for (call, name, met) in SAMPLE_STATUSES {
+        let mut statuses = Statuses::new(name, met);
+        for _ in 0..cases / SAMPLE_STATUSES.len() as u64 {
+            held::samples(
+                &samples::case(*call, &mut random),
+                &mut random,
+                &mut statuses,
+            );
+        }
+        println!("{statuses}");
+        let rare = statuses.rare(100);
+        assert!(rare.is_empty(), "met fewer than 100 times: {rare:?}");
+    }
+    println!("{cases} calls on samples");
 }
 
 fn setting(name: &str, default: u64) -> u64 {

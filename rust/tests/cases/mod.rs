@@ -10,6 +10,7 @@ pub mod model;
 pub mod nested;
 pub mod random;
 pub mod records;
+pub mod samples;
 pub mod sei;
 pub mod slices;
 pub mod units;

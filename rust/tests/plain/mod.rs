@@ -16,6 +16,7 @@ mod marks;
 mod nal;
 mod reader;
 mod record;
+pub mod samples;
 mod sei;
 mod thumbnails;
 mod writer;
