@@ -1,0 +1,2 @@
+-- The frame of a file at a time.
+pub mod Files
