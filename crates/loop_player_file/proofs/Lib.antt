@@ -1,2 +1,3 @@
--- The laws of the call.
+-- The laws of the call, and what it answers.
 pub mod Laws
+pub mod Requirements
