@@ -101,7 +101,8 @@ enum bpg_alpha_kind {
     X(BPG_DEEP_THUMBNAIL, 27, "a thumbnail stands at level 5") \
     X(BPG_BAD_THUMBNAIL, 28, "a thumbnail is itself refused") \
     X(BPG_LARGE_THUMBNAIL, 29, "a thumbnail is wider or taller than its parent, or of its size") \
-    X(BPG_BAD_BATCH, 30, "the lengths do not add up to the buffer, or the lists differ in length")
+    X(BPG_BAD_BATCH, 30, "the lengths do not add up to the buffer, or the lists differ in length") \
+    X(BPG_UNPLAYABLE, 37, "a loop has no frame or more than 256, a duration of 0, or a frame period number of 0")
 
 enum bpg_status {
 #define BPG_STATUS_NAME(name, number, text) name = number,
