@@ -15,21 +15,31 @@ pub(crate) fn wide(n: u16) -> u64
     n as u64
 }
 
+// Sums of 32 bits: a vector holds four of them.
+fn half_wide(n: u16) -> u32
+    ensures { λ r. ⌜ (r ≡ n) × (r < 65536) ⌝ }
+{
+    n as u32
+}
+
 // The ticks of one round, and whether every duration is above 0: one pass, with no branch in it.
 pub(crate) fn add_up(durations: &[u16]) -> Round
     requires { ⌜ length (now durations) ≤ 256 ⌝ }
     ensures { λ r. ⌜ (r .ticks ≡ total (now (durations .entry))) × (r .ticks < 2 ^ 24) × (r .positive ≡ allPositive (now (durations .entry))) ⌝ }
 {
-    let mut ticks = 0u64;
+    let mut ticks = 0u32;
     let mut positive = true;
     let mut i = 0;
     while i < durations.len() {
-        let d = wide(durations[i]);
+        let d = half_wide(durations[i]);
         ticks += d;
         positive = positive & (0 < d);
         i += 1;
     }
-    Round { ticks, positive }
+    Round {
+        ticks: ticks as u64,
+        positive,
+    }
 }
 
 // The frame whose span holds r: one pass, up to that frame.

@@ -13,23 +13,23 @@ pub struct Loop {
     pub durations: Vec<u16>,
 }
 
-/// The frame whose last tick in the round is the first that is not before this one.
+/// The frame whose end in the round is the first after this tick. With at most 256 durations no sum or product is above 2^40.
 pub fn frame_at(shown: &Loop, tick: u64) -> Result<FrameAt, Refusal> {
     let durations = &shown.durations;
     let playable = (1..=256).contains(&durations.len()) && !durations.contains(&0);
     if !playable || shown.period.0 == 0 || shown.period.1 == 0 {
         return refuse(Reason::Unplayable, 0);
     }
-    let round: u128 = durations.iter().map(|&ticks| u128::from(ticks)).sum();
-    let rounds = u128::from(shown.count);
-    if rounds > 0 && u128::from(tick) >= rounds * round {
+    let round: u64 = durations.iter().map(|&ticks| u64::from(ticks)).sum();
+    let rounds = u64::from(shown.count);
+    if rounds > 0 && tick >= rounds * round {
         let frame = durations.len() as u32 - 1;
         return Ok(FrameAt { frame, ended: true });
     }
-    let tick = u128::from(tick) % round;
+    let tick = tick % round;
     let mut end = 0;
     let frame = durations.iter().position(|&ticks| {
-        end += u128::from(ticks);
+        end += u64::from(ticks);
         tick < end
     });
     let frame = frame.expect("the tick is in the round") as u32;
@@ -40,11 +40,11 @@ pub fn frame_at(shown: &Loop, tick: u64) -> Result<FrameAt, Refusal> {
 }
 
 pub fn ticks(ms: u32, period: (u16, u16)) -> Result<u64, Refusal> {
-    let (num, den) = (u128::from(period.0), u128::from(period.1));
+    let (num, den) = (u64::from(period.0), u64::from(period.1));
     if num == 0 || den == 0 {
         return refuse(Reason::Unplayable, 0);
     }
-    Ok((u128::from(ms) * den / (num * 1000)) as u64)
+    Ok(u64::from(ms) * den / (num * 1000))
 }
 
 /// The frame of a file at a time.
