@@ -31,6 +31,7 @@ const REASONS = {
   28: ['BadThumbnail', 'a thumbnail is itself refused'],
   29: ['LargeThumbnail', 'a thumbnail is wider or taller than its parent, or of its size'],
   30: ['BadBatch', 'the lengths do not add up to the buffer, or the lists differ in length'],
+  37: ['Unplayable', 'a loop has no frame or more than 256, a duration of 0, or a frame period number of 0'],
 };
 
 /** A call's refusal: its number, the offset in the file of what was refused (0 where none is named), its name and its words. */

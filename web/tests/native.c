@@ -2,9 +2,11 @@
  * its number, one byte, then its values (8 bytes) and lists (4 bytes for the count, then the elements). An answer is the status, then results
  * and the lists that may be written, in the order of the parameters. Results begin as all ones. */
 #include "../../include/bpg.h"
+#include "../../include/loop_player.h"
 
 #include <stdio.h>
 #include <stdlib.h>
+#include <string.h>
 
 struct list {
     void *at;
@@ -129,10 +131,41 @@ static void canonical_size(void) {
     put_status(), put_both();
 }
 
+/* A result that is a flag is one byte, all ones before the call. */
+static uint32_t frame;
+static bool ended;
+
+static void put_shown(void) {
+    uint8_t flag;
+    memcpy(&flag, &ended, sizeof flag);
+    put_status(), put(&frame, sizeof frame), put(&flag, sizeof flag);
+}
+
+static void player_frame(void) {
+    uint16_t loop_count = (uint16_t)get_value(), num = (uint16_t)get_value(), den = (uint16_t)get_value();
+    a = get_list(2);
+    status = player_frame_at(loop_count, num, den, a.at, a.count, get_value(), &frame, &ended);
+    put_shown();
+}
+
+static void player_tick_count(void) {
+    uint64_t ticks = UINT64_MAX;
+    uint32_t ms = (uint32_t)get_value();
+    uint16_t num = (uint16_t)get_value(), den = (uint16_t)get_value();
+    status = player_ticks(ms, num, den, &ticks);
+    put_status(), put(&ticks, sizeof ticks);
+}
+
+static void player_time(void) {
+    a = get_list(1);
+    status = player_frame_at_time(a.at, a.count, (uint32_t)get_value(), &frame, &ended, &first);
+    put_shown(), put_first();
+}
+
 /* In the order of SIGNATURES in raw.mjs. */
 static void (*const calls[])(void) = {
     read_file, entry, write_file, canonicalize, frames, frame_count, check_thumbnails, batch, unescape, escape, write_size,
-    canonical_size,
+    canonical_size, player_frame, player_tick_count, player_time,
 };
 
 int main(void) {
