@@ -107,10 +107,10 @@ module _ (loops num den : ℕ) (ds : List ℕ) (p : Playable num den ds) where
   ticks = total-positive ds (p .some) positive
 
   -- the tick of a round, and where it is in that round
-  in-round : (j t : ℕ) → Played loops num den ds j → t < total ds → shown loops num den ds (j * total ds + t) ≡ frameIn ds t
+  in-round : (j t : ℕ) → Played loops j → t < total ds → shown loops num den ds (j * total ds + t) ≡ frameIn ds t
   in-round j t q h = shown-is (j * total ds + t) ∙ round-shows loops ds j t q h
 
-  last-of : (j : ℕ) → Played loops num den ds j → shown loops num den ds (j * total ds + (total ds - 1)) ≡ length ds - 1
+  last-of : (j : ℕ) → Played loops j → shown loops num den ds (j * total ds + (total ds - 1)) ≡ length ds - 1
   last-of j q = let k = ticks in in-round j (total ds - 1) q (omega arith) ∙ at-last ds positive (p .some)
 
   stays : (l : ℕ) → l ≡ loops → 0 < l → shown loops num den ds (l * total ds - 1) ≡ length ds - 1
@@ -150,7 +150,7 @@ module _ (loops num den : ℕ) (ds : List ℕ) (p : Playable num den ds) where
         there = λ n. there n (ended loops num den ds n) refl;
       }
 
-  next : (j t : ℕ) → Played loops num den ds j → suc t < total ds → (n : ℕ) → n ≡ j * total ds + t
+  next : (j t : ℕ) → Played loops j → suc t < total ds → (n : ℕ) → n ≡ j * total ds + t
       → (shown loops num den ds (suc n) ≡ shown loops num den ds n) ⊎ (shown loops num den ds (suc n) ≡ suc (shown loops num den ds n))
   next j t q h n e =
       let a : shown loops num den ds n ≡ frameIn ds t = ap (shown loops num den ds) e ∙ in-round j t q (omega arith) in

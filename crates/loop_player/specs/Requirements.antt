@@ -35,9 +35,9 @@ module _ (loops num den : ℕ) (ds : List ℕ) where
   abbrev pub ended : (tick : ℕ) → Bool
   ended n = frameAnswer loops num den ds n .ended
 
-  -- a round that is played, from 0: any, where the loop goes on for ever
-  abbrev pub Played : (round : ℕ) → Type 0
-  Played j = (loops ≡ 0) ⊎ (j < loops)
+-- a round that is played, from 0: any, where the loop goes on for ever
+abbrev pub Played : (loops round : ℕ) → Type 0
+Played loops j = (loops ≡ 0) ⊎ (j < loops)
 
 -- the span of frame k in a round holds r
 abbrev pub Holds : List ℕ → (k r : ℕ) → Type 0
@@ -67,14 +67,14 @@ countBelow (suc n) p = countBelow n p + cond (p n) 1 0
 
 -- "each frame's ticks in one round number exactly its duration"; and "tick n + T .. not ended, shows the frame of tick n", within 64 bits or not
 pub record Rounds (loops num den : ℕ) (ds : List ℕ) : Type 0 where
-  pub exactly : (j : ℕ) → Played loops num den ds j → (k : ℕ) → countBelow (total ds) (λ t. eqb (shown loops num den ds (j * total ds + t)) k) ≡ getD ds k 0
+  pub exactly : (j : ℕ) → Played loops j → (k : ℕ) → countBelow (total ds) (λ t. eqb (shown loops num den ds (j * total ds + t)) k) ≡ getD ds k 0
   pub later : (n : ℕ) → ended loops num den ds (n + total ds) ≡ false → shown loops num den ds (n + total ds) ≡ shown loops num den ds n
   -- the frames of a round come in order: 0 first, then the same or the next, and the last at its last tick
-  pub first : (j : ℕ) → Played loops num den ds j → shown loops num den ds (j * total ds) ≡ 0
-  pub next : (j t : ℕ) → Played loops num den ds j → suc t < total ds
+  pub first : (j : ℕ) → Played loops j → shown loops num den ds (j * total ds) ≡ 0
+  pub next : (j t : ℕ) → Played loops j → suc t < total ds
       → let n = j * total ds + t in
       (shown loops num den ds (suc n) ≡ shown loops num den ds n) ⊎ (shown loops num den ds (suc n) ≡ suc (shown loops num den ds n))
-  pub last : (j : ℕ) → Played loops num den ds j → shown loops num den ds (j * total ds + (total ds - 1)) ≡ length ds - 1
+  pub last : (j : ℕ) → Played loops j → shown loops num den ds (j * total ds + (total ds - 1)) ≡ length ds - 1
 
 pub record Loops : Type 0 where
   pub ends : (loops num den : ℕ) (ds : List ℕ) → Playable num den ds → Ended loops num den ds

@@ -5,9 +5,9 @@ use crate::check::frames_known;
 use crate::check::period_known;
 use crate::round::add_up;
 use crate::round::frame_in;
+use crate::round::in_64_bits;
 use crate::round::is_over;
 use crate::round::last_of;
-use crate::round::wide;
 ghost use mathlib.Core.Path.{_≡_};
 ghost use Rattle.loop_player.specs.Player.{refusedFrame, frameAnswer, ticksAnswer};
 
@@ -68,6 +68,6 @@ pub fn ticks(ms: u32, period_num: u16, period_den: u16) -> TickCount
     }
     TickCount {
         status: 0,
-        ticks: ms as u64 * wide(period_den) / (1000 * wide(period_num)),
+        ticks: ms as u64 * in_64_bits(period_den) / (1000 * in_64_bits(period_num)),
     }
 }

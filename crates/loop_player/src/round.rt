@@ -9,14 +9,14 @@ pub struct Round {
     pub positive: bool,
 }
 
-pub(crate) fn wide(n: u16) -> u64
+pub(crate) fn in_64_bits(n: u16) -> u64
     ensures { λ r. ⌜ (r ≡ n) × (r < 65536) ⌝ }
 {
     n as u64
 }
 
 // Sums of 32 bits: a vector holds four of them.
-fn half_wide(n: u16) -> u32
+fn in_32_bits(n: u16) -> u32
     ensures { λ r. ⌜ (r ≡ n) × (r < 65536) ⌝ }
 {
     n as u32
@@ -31,7 +31,7 @@ pub(crate) fn add_up(durations: &[u16]) -> Round
     let mut positive = true;
     let mut i = 0;
     while i < durations.len() {
-        let d = half_wide(durations[i]);
+        let d = in_32_bits(durations[i]);
         ticks += d;
         positive = positive & (0 < d);
         i += 1;
@@ -50,7 +50,7 @@ pub(crate) fn frame_in(durations: &[u16], r: u64) -> u32
     let mut left = r;
     let mut i = 0;
     while i < durations.len() {
-        let d = wide(durations[i]);
+        let d = in_64_bits(durations[i]);
         if left < d {
             return i as u32;
         }
@@ -65,7 +65,7 @@ pub(crate) fn is_over(loop_count: u16, round: u64, tick: u64) -> bool
     requires { ⌜ round < 2 ^ 24 ⌝ }
     ensures { λ r. ⌜ r ≡ endedBy «loop_count» round tick ⌝ }
 {
-    let end = wide(loop_count) * round;
+    let end = in_64_bits(loop_count) * round;
     (0 < loop_count) & (end <= tick)
 }
 

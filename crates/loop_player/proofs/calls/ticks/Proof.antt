@@ -24,14 +24,14 @@ num-positive : (c : tie.Else1) → 0 < at c .args .period-num
 num-positive c = ltb-true _ _ (and-left _ _ (known c))
 
 mul-t8 : tie.Need-mul-t8
-mul-t8 c = let f = time-fits (c .before .before .before .args .ms) (c .wide .result) (omega arith) (omega arith) in omega arith
+mul-t8 c = let f = time-fits (c .before .before .before .args .ms) (c .in-64-bits .result) (omega arith) (omega arith) in omega arith
 
 div-t11 : tie.Need-div-t11
 div-t11 c = let h = num-positive (c .before .before) in omega arith
 
 returns-2 : tie.Need-returns-2
 unfolding ticksOf ticksAnswer
-returns-2 c = rw (c .before .wide .ensures .0, c .wide2 .ensures .0, known (c .before .before))
+returns-2 c = rw (c .before .in-64-bits .ensures .0, c .in-64-bits2 .ensures .0, known (c .before .before))
 
 pub ticks-spec : {M : Type 1} → statement M
 ticks-spec =

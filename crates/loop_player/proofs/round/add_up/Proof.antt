@@ -25,7 +25,7 @@ loop-again : tie.Need-loop-again Inv-loop μ-loop
 loop-again c =
     let l = c .before .before .before .loop in
     let ds = c .before .before .before .before .before .args .durations .now in
-    let d = c .half-wide .ensures .0 in (
+    let d = c .in-32-bits .ensures .0 in (
       omega arith,
       omega arith,
       rw d (total-more ds (l .i) (l .ticks) _ (omega arith) (l .inv .2)),

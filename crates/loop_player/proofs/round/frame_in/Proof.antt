@@ -28,7 +28,7 @@ loop-again : tie.Need-loop-again Inv-loop μ-loop
 loop-again c =
     let l = c .before .before .before .before .loop in
     let ds = c .before .before .before .before .before .before .args .durations .now in
-    (omega arith, rw (c .before .wide .ensures .0) (find-more ds (l .i) (l .left) _ (omega arith) (omega arith) (l .inv .1)))
+    (omega arith, rw (c .before .in-64-bits .ensures .0) (find-more ds (l .i) (l .left) _ (omega arith) (omega arith) (l .inv .1)))
 
 returns-2 : tie.Need-returns-2 Inv-loop μ-loop
 returns-2 c = find-none _ _ _ _ (c .loop-test .left) (c .before .loop .inv .1)
