@@ -1,6 +1,7 @@
-/* Runs all of include/bpg.h: reads, lists entries, writes and canonicalizes the examples, and holds every constant to what the library
+/* Runs all of include/bpg.h and include/loop_player.h: reads, lists entries, writes and canonicalizes the examples, and holds every constant to what the library
  * does. Compiled as C99, C11 and C++11 by c/test. */
 #include <bpg.h>
+#include <loop_player.h>
 #include <stdio.h>
 #include <string.h>
 
@@ -514,6 +515,67 @@ static unsigned first_with(const char *text) {
 }
 
 /* Each status was answered by a call above, and has words of its own. */
+/* What a call of the player answers. */
+struct shown {
+    uint32_t frame;
+    bool ended;
+};
+
+static void shows(struct shown shown, uint32_t frame, bool ended, int line) {
+    check(shown.frame == frame && shown.ended == ended, "the frame and the end", line);
+}
+#define SHOWS(frame, ended) shows(shown, frame, ended, __LINE__)
+
+/* A loop of three frames of 1, 2 and 3 ticks, played twice. */
+static void player(void) {
+    static const uint16_t durations[] = {1, 2, 3}, zero[] = {1, 0, 3};
+    uint16_t many[PLAYER_MAX_FRAMES + 1];
+    struct shown shown = {9, true};
+    uint64_t ticks = 9;
+    size_t k;
+    ANSWERED(player_frame_at(2, 1, 10, durations, 3, 7, &shown.frame, &shown.ended), PLAYER_OK);
+    SHOWS(1, false);
+    ANSWERED(player_frame_at(2, 1, 10, durations, 3, 11, &shown.frame, &shown.ended), PLAYER_OK);
+    SHOWS(2, false);
+    ANSWERED(player_frame_at(2, 1, 10, durations, 3, 12, &shown.frame, &shown.ended), PLAYER_OK);
+    SHOWS(2, true);
+    ANSWERED(player_frame_at(0, 1, 10, durations, 3, UINT64_MAX, &shown.frame, &shown.ended), PLAYER_OK);
+    SHOWS(2, false);
+    for (k = 0; k <= PLAYER_MAX_FRAMES; k++) {
+        many[k] = 1;
+    }
+    ANSWERED(player_frame_at(0, 1, 10, many, PLAYER_MAX_FRAMES, 255, &shown.frame, &shown.ended), PLAYER_OK);
+    SHOWS(255, false);
+    ANSWERED(player_frame_at(0, 1, 10, many, PLAYER_MAX_FRAMES + 1, 255, &shown.frame, &shown.ended), BPG_UNPLAYABLE);
+    SHOWS(0, false);
+    ANSWERED(player_frame_at(1, 1, 10, zero, 3, 99, &shown.frame, &shown.ended), PLAYER_UNPLAYABLE);
+    ANSWERED(player_frame_at(1, 1, 10, zero, 0, 99, &shown.frame, &shown.ended), PLAYER_UNPLAYABLE);
+    ANSWERED(player_frame_at(1, 0, 10, durations, 3, 99, &shown.frame, &shown.ended), PLAYER_UNPLAYABLE);
+    SHOWS(0, false);
+    ANSWERED(player_ticks(1099, 1, 10, &ticks), PLAYER_OK);
+    CHECK(ticks == 10);
+    ANSWERED(player_ticks(1099, 1, 0, &ticks), PLAYER_UNPLAYABLE);
+    CHECK(ticks == 0);
+}
+
+/* File C with two frames of 1 tick; a still file, which has no period; and a file that is refused. */
+static void player_files(void) {
+    static const uint8_t data[] = {0x80, 0x00, 0x00, 0x01, 0x26, 0x01, 0x80};
+    struct file file = {{0}, 0};
+    struct shown shown = {9, true};
+    size_t offset = 9;
+    put(&file, C, sizeof C);
+    put(&file, data, sizeof data);
+    ANSWERED(player_frame_at_time(file.bytes, file.length, 150, &shown.frame, &shown.ended, &offset), PLAYER_OK);
+    SHOWS(1, false);
+    CHECK(offset == 0);
+    file = with_data("\x26\x01\x80", 3);
+    ANSWERED(player_frame_at_time(file.bytes, file.length, 150, &shown.frame, &shown.ended, &offset), PLAYER_UNPLAYABLE);
+    SHOWS(0, false);
+    ANSWERED(player_frame_at_time(C, sizeof C, 150, &shown.frame, &shown.ended, &offset), BPG_BAD_NAL_UNIT);
+    CHECK(offset == 20);
+}
+
 static void statuses(void) {
     static const struct {
         uint8_t number;
@@ -559,6 +621,8 @@ int main(void) {
     batches();
     samples();
     escapes();
+    player();
+    player_files();
     statuses();
     printf("%u checks passed, %u failed\n", passed, failed);
     return failed == 0 ? 0 : 1;

@@ -104,7 +104,8 @@ enum bpg_alpha_kind {
     X(BPG_BAD_BATCH, 30, "the lengths do not add up to the buffer, or the lists differ in length") \
     X(BPG_UNEQUAL_LENGTHS, 31, "the planes and buffers of samples differ in length") \
     X(BPG_BAD_SAMPLE_DEPTH, 32, "the depth of the samples is not 8 to 14") \
-    X(BPG_SAMPLE_TOO_LARGE, 33, "a sample is above the largest of its depth")
+    X(BPG_SAMPLE_TOO_LARGE, 33, "a sample is above the largest of its depth") \
+    X(BPG_UNPLAYABLE, 37, "a loop has no frame or more than 256, a duration of 0, or a frame period number of 0")
 
 enum bpg_status {
 #define BPG_STATUS_NAME(name, number, text) name = number,

@@ -1,5 +1,5 @@
-//! Links the proved static library: the one in the folder that `BPG_LIBRARY_DIR` names, or else the repository's own,
-//! which `../build library` makes again whenever a crate changed.
+//! Links the proved static libraries, the first and, with the feature `player`, the loop player's: those in the folder that
+//! `BPG_LIBRARY_DIR` names, or else the repository's own, which `../build` makes again whenever a crate changed.
 
 use std::env;
 use std::fs::File;
@@ -9,13 +9,39 @@ use std::time::Instant;
 
 const FOLDER: &str = "BPG_LIBRARY_DIR";
 
+/// What `../build` calls a library, and its archive as `./install` and as `rt staticlib` name it.
+struct Library {
+    name: &'static str,
+    installed: &'static str,
+    made: &'static str,
+}
+
+const FIRST: Library = Library {
+    name: "library",
+    installed: "libbpg.a",
+    made: "libbpg_export.a",
+};
+
+const PLAYER: Library = Library {
+    name: "player",
+    installed: "libloop_player.a",
+    made: "libloop_player_export.a",
+};
+
 fn main() {
     println!("cargo:rerun-if-changed=build.rs");
     println!("cargo:rerun-if-env-changed={FOLDER}");
     check_target();
+    link(&FIRST);
+    if env::var_os("CARGO_FEATURE_PLAYER").is_some() {
+        link(&PLAYER);
+    }
+}
+
+fn link(library: &Library) {
     let archive = match env::var_os(FOLDER) {
-        Some(folder) => named(Path::new(&folder)),
-        None => own(),
+        Some(folder) => named(library, Path::new(&folder)),
+        None => own(library),
     };
     println!("cargo:rerun-if-changed={}", archive.display());
     let folder = archive.parent().expect("an archive stands in a folder");
@@ -46,19 +72,20 @@ fn variable(name: &str) -> String {
 }
 
 /// A library that was made elsewhere, as `./install` or `rt staticlib` names it.
-fn named(folder: &Path) -> PathBuf {
-    let archives = ["libbpg.a", "libbpg_export.a"].map(|name| folder.join(name));
+fn named(library: &Library, folder: &Path) -> PathBuf {
+    let [installed, made] = [library.installed, library.made];
+    let archives = [installed, made].map(|name| folder.join(name));
     let found = archives.into_iter().find(|archive| archive.exists());
     found.unwrap_or_else(|| {
         let folder = folder.display();
         fail(&format!(
-            "{FOLDER} names {folder}, which has neither libbpg.a nor libbpg_export.a"
+            "{FOLDER} names {folder}, which has neither {installed} nor {made}"
         ))
     })
 }
 
 /// The repository's library, made where it is missing or older than the crates.
-fn own() -> PathBuf {
+fn own(library: &Library) -> PathBuf {
     let package = PathBuf::from(variable("CARGO_MANIFEST_DIR"));
     let root = package.parent().unwrap_or(&package);
     let [crates, list] = ["crates", "crates.txt"].map(|name| root.join(name));
@@ -68,13 +95,14 @@ fn own() -> PathBuf {
     for source in [&crates, &list] {
         println!("cargo:rerun-if-changed={}", source.display());
     }
-    let archive = root.join("target/staticlib/libbpg_export.a");
+    let archive = root.join("target/staticlib").join(library.made);
     let before = modified(&archive);
     let start = Instant::now();
-    make(root);
+    make(library.name, root);
     if modified(&archive) != before {
         let seconds = start.elapsed().as_secs();
-        println!("cargo:warning=the proved static library was not there or older than the crates: made again in {seconds} s");
+        let made = library.made;
+        println!("cargo:warning=the proved static library {made} was not there or older than the crates: made again in {seconds} s");
     }
     archive
 }
@@ -85,11 +113,11 @@ fn modified(archive: &Path) -> Option<std::time::SystemTime> {
 
 /// Cargo shows what a build script says only when it has ended, and this may take minutes: so its progress goes to the
 /// terminal itself, where there is one.
-fn make(root: &Path) {
+fn make(name: &str, root: &Path) {
     let terminal = File::options().write(true).open("/dev/tty");
     let progress = terminal.map_or_else(|_| Stdio::inherit(), Stdio::from);
     let status = Command::new(root.join("build"))
-        .arg("library")
+        .arg(name)
         .stderr(progress)
         // Cargo reads this program's own output as instructions.
         .stdout(std::io::stderr())
@@ -97,8 +125,8 @@ fn make(root: &Path) {
     match status {
         Ok(status) if status.success() => {}
         Ok(_) => fail(&format!(
-            "the proved library could not be made by `./build library`, which the Rattle toolchain (`rt`) is needed for; {FOLDER} can name the folder of one made elsewhere"
+            "the proved library could not be made by `./build {name}`, which the Rattle toolchain (`rt`) is needed for; {FOLDER} can name the folder of one made elsewhere"
         )),
-        Err(error) => fail(&format!("`./build library` could not be started: {error}")),
+        Err(error) => fail(&format!("`./build {name}` could not be started: {error}")),
     }
 }

@@ -72,6 +72,12 @@ export interface Reading extends BpgRecord {
   codedHeight: number;
 }
 
+/** What a loop shows: the frame, from 0, and whether it was played as often as it asks for, so that the last frame stays. */
+export interface Shown {
+  frame: number;
+  ended: boolean;
+}
+
 /** A call's refusal. */
 export class BpgRefusal extends Error {
   constructor(status: number, offset?: number);
@@ -147,6 +153,15 @@ export class Bpg {
 
   /** Reads the files that stand end to end in a buffer and have these lengths: for each its refusal, or null where it is accepted. */
   batch(buffer: Uint8Array, lengths: ArrayLike<number>): (BpgRefusal | null)[];
+
+  /** Milliseconds, below 2^32, as whole ticks, a tick being one frame period of the record. */
+  ticks(record: Pick<BpgRecord, 'framePeriodNum' | 'framePeriodDen'>, ms: number): number;
+
+  /** The frame that stands at a tick; `durations` are those of `frames`. */
+  frameAt(record: Pick<BpgRecord, 'loopCount' | 'framePeriodNum' | 'framePeriodDen'>, durations: Uint16Array, tick: number | bigint): Shown;
+
+  /** The frame of a file that stands at a time in milliseconds, below 2^32. */
+  frameAtTime(file: Uint8Array, ms: number): Shown;
 
   /** The bytes of a NAL unit without its emulation prevention bytes. */
   unescape(unit: Uint8Array, out?: Uint8Array): Uint8Array;

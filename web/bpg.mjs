@@ -42,6 +42,7 @@ async function moduleBytes(source) {
 }
 
 const NO_RANGE = { start: 0, length: 0 };
+const NO_BYTES = new Uint8Array(0);
 const LIST_LENGTH = BigInt(MAX_NUMBERS);
 
 function checkArray(value, what, type) {
@@ -62,6 +63,20 @@ function depthBits(depth) {
   if (!Number.isSafeInteger(depth)) throw new TypeError('the depth is not a whole number');
   return depth >= 0 && depth < 256 ? depth : 255;
 }
+
+function checkNumber(value, bits, what) {
+  if (!Number.isSafeInteger(value) || value < 0 || value >= 2 ** bits) throw new TypeError(`${what} is not a whole number of ${bits} bits`);
+  return value;
+}
+
+function checkTick(tick) {
+  const whole = typeof tick === 'bigint' || Number.isSafeInteger(tick);
+  if (!whole || tick < 0 || BigInt(tick) >= 1n << 64n) throw new TypeError('the tick is not a whole number of 64 bits');
+  return BigInt(tick);
+}
+
+// The numbers of a loop in a record; a field that is none is named.
+const loopNumbers = (record, names) => names.map((name) => checkNumber(record?.[name], 16, `record.${name}`));
 
 function checkLength(length) {
   if (!Number.isSafeInteger(length) || length < 0 || length >= 2 ** 32) throw new TypeError('a length is a whole number from 0 to 2^32 - 1');
@@ -237,6 +252,45 @@ export class Bpg {
   /** Full-range luma from limited luma, both of 8 bits: a new array, or `out`. */
   limitedLuma(y, out) {
     return this.#converted('bpg_limited_luma', [y], 1, out === undefined ? out : [out], 1, [])[0];
+  }
+
+  /** Milliseconds as whole ticks, a tick being one frame period of the record. */
+  ticks(record, ms) {
+    const [num, den] = loopNumbers(record, ['framePeriodNum', 'framePeriodDen']);
+    checkNumber(ms, 32, 'the time');
+    this.#put(NO_BYTES);
+    const status = this.#calls.player_ticks(ms, num, den, this.#memory.results);
+    this.#accepted(status & 0xff, 0);
+    return this.#memory.result(0);
+  }
+
+  /** The frame, from 0, that stands at a tick, and whether the loop has ended; `record` has the loop's numbers, `durations` are those of `frames`. */
+  frameAt(record, durations, tick) {
+    const numbers = loopNumbers(record, ['loopCount', 'framePeriodNum', 'framePeriodDen']);
+    checkArray(durations, 'the durations', 'Uint16Array');
+    const wanted = checkTick(tick);
+    this.#put(new Uint8Array(durations.buffer, durations.byteOffset, durations.byteLength));
+    const { room, results } = this.#memory;
+    const status = this.#calls.player_frame_at(...numbers, room, BigInt(durations.length), wanted, results, results + 4);
+    this.#accepted(status & 0xff, 0);
+    return this.#shown();
+  }
+
+  /** The frame of a file that stands at a time in milliseconds. The file is read at each call; who asks often keeps its record and its durations. */
+  frameAtTime(file, ms) {
+    const bytes = fileBytes(file);
+    checkNumber(ms, 32, 'the time');
+    this.#put(bytes);
+    const { room, results } = this.#memory;
+    const status = this.#calls.player_frame_at_time(room, BigInt(bytes.length), ms, results, results + 4, results + 8);
+    this.#accepted(status & 0xff, this.#memory.result(1));
+    return this.#shown();
+  }
+
+  // The frame is the first result, and whether the loop has ended stands in the byte after it.
+  #shown() {
+    const { words, bytes, results } = this.#memory;
+    return { frame: words[results / 4], ended: bytes[results + 4] !== 0 };
   }
 
   #readList(file) {

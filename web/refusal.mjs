@@ -34,6 +34,7 @@ const REASONS = {
   31: ['UnequalLengths', 'the planes and buffers of samples differ in length'],
   32: ['BadSampleDepth', 'the depth of the samples is not 8 to 14'],
   33: ['SampleTooLarge', 'a sample is above the largest of its depth'],
+  37: ['Unplayable', 'a loop has no frame or more than 256, a duration of 0, or a frame period number of 0'],
 };
 
 /** A call's refusal: its number, the offset in the file of what was refused (0 where none is named), its name and its words. */

@@ -69,6 +69,9 @@ fn main() {
             escaping(&name, &sample::bytes(marks, *size));
         }
     }
+    for frames in [4, 60, 256] {
+        playing(frames);
+    }
     println!();
     println!(
         "A file of 16 MiB is read in {:.2} of the time of one of 1 KiB.",
@@ -294,6 +297,43 @@ fn timing_frames(name: &str, file: &[u8]) {
         ],
     );
     row_over("bpg_frames", &format!("16 MiB, {name}"), file.len(), &race);
+}
+
+/// A frame at each tick of some rounds in turn.
+fn playing(frames: usize) {
+    let shown = &plain::player::Loop {
+        count: 0,
+        period: (1, 25),
+        durations: (0..frames).map(|frame| frame as u16 % 7 + 1).collect(),
+    };
+    let durations = &shown.durations[..];
+    let [mut tick, mut plain_tick] = [0; 2];
+    let race = Race::run::<()>(
+        &mut [],
+        [
+            &mut |_| {
+                tick += 1;
+                black_box(bpg::player::ffi::frame_at(
+                    0,
+                    1,
+                    25,
+                    black_box(durations),
+                    tick,
+                ));
+            },
+            &mut |_| {
+                plain_tick += 1;
+                black_box(plain::player::frame_at(black_box(shown), plain_tick))
+                    .expect("the loop can be played");
+            },
+        ],
+    );
+    row(
+        "player_frame_at",
+        &format!("{frames} frames"),
+        &race,
+        [0, 1],
+    );
 }
 
 fn unescaping(name: &str, unit: &[u8]) {

@@ -35,6 +35,8 @@
 //!
 //! `alloc`, on by default: the calls that answer a `Vec`. Without it the package needs no allocator, and
 //! never the standard library.
+//!
+//! `player`, on by default: the module [`player`], which links the loop player's own static library.
 
 #![no_std]
 #![deny(missing_docs)]
@@ -52,6 +54,8 @@ mod frames;
 mod header;
 mod kinds;
 mod number;
+#[cfg(feature = "player")]
+pub mod player;
 mod read;
 mod record;
 mod refusal;

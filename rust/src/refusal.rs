@@ -66,6 +66,7 @@ reasons! {
     31 UnequalLengths "the planes and buffers of samples differ in length",
     32 BadSampleDepth "the depth of the samples is not 8 to 14",
     33 SampleTooLarge "a sample is above the largest of its depth",
+    37 Unplayable "a loop has no frame or more than 256, a duration of 0, or a frame period number of 0",
 }
 
 impl Reason {

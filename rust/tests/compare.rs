@@ -3,7 +3,7 @@
 //!
 //! `BPG_SEED` gives another run; `BPG_FILES`, `BPG_RECORDS`, `BPG_FRAMED` (files whose data is made of units,
 //! for the calls on frames), `BPG_SLICES` (for emulation prevention), `BPG_NESTED` (files with thumbnails),
-//! `BPG_BATCHES` and `BPG_SAMPLES` another number of cases. A difference fails the test and prints the case and both answers.
+//! `BPG_BATCHES`, `BPG_SAMPLES` and `BPG_LOOPS` another number of cases. A difference fails the test and prints the case and both answers.
 
 mod cases;
 mod held;
@@ -103,6 +103,31 @@ fn the_calls_on_samples_agree_with_plain_rust() {
         assert!(rare.is_empty(), "met fewer than 100 times: {rare:?}");
     }
     println!("{cases} calls on samples");
+}
+
+#[test]
+fn the_player_agrees_with_plain_rust() {
+    let seed = setting("BPG_SEED", 20_150_425);
+    let cases = setting("BPG_LOOPS", 400_000);
+    let mut random = Random::new(seed.wrapping_add(THREADS + 12));
+    let mut frames = Statuses::new("player_frame_at", held::PLAYER_STATUSES);
+    let mut ticks = Statuses::new("player_ticks", held::PLAYER_STATUSES);
+    let mut files = Statuses::new("player_frame_at_time", held::PLAYER_FILE_STATUSES);
+    for _ in 0..cases {
+        let (shown, tick) = cases::loops::case(&mut random);
+        held::frame_at(&shown, tick, &mut frames);
+        held::ticks(&shown, &mut random, &mut ticks);
+    }
+    for _ in 0..cases / 4 {
+        let file = cases::loops::file(&mut random);
+        held::frame_at_time(&file, &mut random, &mut files);
+    }
+    for statuses in [frames, ticks, files] {
+        println!("{statuses}");
+        let rare = statuses.rare(100);
+        assert!(rare.is_empty(), "met fewer than 100 times: {rare:?}");
+    }
+    println!("{cases} loops, and {} files", cases / 4);
 }
 
 fn setting(name: &str, default: u64) -> u64 {

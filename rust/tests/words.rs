@@ -99,6 +99,16 @@ fn enums_are_those_of_the_header() {
 }
 
 #[test]
+#[cfg(feature = "player")]
+fn the_player_is_that_of_its_header() {
+    let header = include_str!("../../include/loop_player.h");
+    let frames = bpg::player::MAX_FRAMES;
+    assert!(header.contains(&format!("#define PLAYER_MAX_FRAMES {frames}\n")));
+    let number = Reason::Unplayable.number();
+    assert!(header.contains(&format!("PLAYER_UNPLAYABLE = {number} ")));
+}
+
+#[test]
 fn the_version_is_the_packages() {
     let version = env!("CARGO_PKG_VERSION");
     assert!(HEADER.contains(&format!("#define BPG_VERSION \"{version}\"\n")));

@@ -20,6 +20,8 @@ const large = new Uint8Array(MAX_FILE).fill(0x55);
 large.set([...A, 0x80]);
 
 const refusal = (status, offset) => (error) => error instanceof BpgRefusal && error.status === status && error.offset === offset;
+// For the player: it takes a time besides the file.
+const atTime = (file) => bpg.frameAtTime(file, 0);
 const onFiles = ['read', 'entries', 'data', 'canonicalize', 'canonicalSize', 'frameCount', 'frames', 'checkThumbnails'];
 
 const tests = {
@@ -30,6 +32,11 @@ const tests = {
     assert.deepEqual(record.entries, [{ tag: Tag.ANIMATION_CONTROL, start: 13, length: 3 }]);
     assert.deepEqual(bpg.canonicalize(B), A);
     assert.deepEqual(bpg.frames(D), Uint16Array.of(1, 3));
+    const shown = [0, 99, 100, 399, 400].map((ms) => bpg.frameAtTime(D, ms).frame);
+    assert.deepEqual(shown, [0, 0, 1, 1, 0]);
+    const twice = { ...record, loopCount: 2 };
+    assert.deepEqual(bpg.frameAt(twice, bpg.frames(D), bpg.ticks(twice, 799)), { frame: 1, ended: false });
+    assert.deepEqual(bpg.frameAt(twice, bpg.frames(D), bpg.ticks(twice, 800)), { frame: 1, ended: true });
   },
 
   'parts are the caller\'s own bytes'() {
@@ -56,6 +63,8 @@ const tests = {
   'what is no Uint8Array is a TypeError'() {
     for (const wrong of [undefined, null, [], 'BPG', 5, A.buffer, new DataView(A.buffer), new Int8Array(A), new Uint16Array(8), {}]) {
       for (const name of onFiles) assert.throws(() => bpg[name](wrong), TypeError, `${name} of ${wrong}`);
+      assert.throws(() => atTime(wrong), TypeError);
+      assert.throws(() => bpg.frameAt(bpg.read(C), wrong instanceof Uint16Array ? A : wrong, 0), TypeError);
       assert.throws(() => bpg.write(bpg.read(A), wrong), TypeError);
       assert.throws(() => bpg.writeSize(bpg.read(A), wrong), TypeError);
       assert.throws(() => bpg.batch(wrong, []), TypeError);
@@ -96,6 +105,13 @@ const tests = {
     for (const wrong of [-1, 1.5, NaN, '0', undefined, 2n]) assert.throws(() => bpg.payload(C, wrong), TypeError);
     for (const wrong of [-1, 1.5, NaN, '16', 2 ** 32]) assert.throws(() => bpg.batch(A, [wrong]), TypeError);
     assert.equal(bpg.payload(C, 2 ** 40).length, 0);
+    const [record, durations] = [bpg.read(C), Uint16Array.of(1, 3)];
+    for (const wrong of [-1, 1.5, NaN, '0', undefined, -1n, 1n << 64n, 2 ** 53]) assert.throws(() => bpg.frameAt(record, durations, wrong), TypeError);
+    for (const wrong of [-1, 1.5, NaN, '0', undefined, 2n, 2 ** 32]) assert.throws(() => bpg.ticks(record, wrong), TypeError);
+    for (const wrong of [-1, 65536, undefined]) assert.throws(() => bpg.frameAt({ ...record, loopCount: wrong }, durations, 0), /record\.loopCount/);
+    assert.deepEqual(bpg.frameAt(record, durations, (1n << 64n) - 1n), { frame: 1, ended: false });
+    assert.throws(() => bpg.frameAt(record, new Uint16Array(257).fill(1), 0), refusal(37, 0));
+    assert.throws(() => bpg.ticks(bpg.read(A), 0), refusal(37, 0));
   },
 
   'a record that is none is a TypeError that names the field'() {

@@ -1,10 +1,12 @@
 /* Answers cases with the native library, for native.mjs: calls from standard input, answers to standard output, as raw.mjs has them. A call is
- * its number, one byte, then its values (8 bytes, or 1) and lists (4 bytes for the count, then the elements). An answer is the status, then results
+ * its number, one byte, then its values (8 bytes) and lists (4 bytes for the count, then the elements). An answer is the status, then results
  * and the lists that may be written, in the order of the parameters. Results begin as all ones. */
 #include "../../include/bpg.h"
+#include "../../include/loop_player.h"
 
 #include <stdio.h>
 #include <stdlib.h>
+#include <string.h>
 
 struct list {
     void *at;
@@ -135,10 +137,8 @@ static void canonical_size(void) {
 }
 
 static uint8_t get_samples(size_t planes, size_t buffers, bool has_depth) {
-    uint8_t depth = 0;
     for (size_t k = 0; k < planes + buffers; k++) slices[k] = get_list(2);
-    if (has_depth) get(&depth, sizeof depth);
-    return depth;
+    return has_depth ? (uint8_t)get_value() : 0;
 }
 
 static void put_samples(size_t planes, size_t buffers) {
@@ -178,10 +178,41 @@ static void limited_luma(void) {
     put_samples(1, 1);
 }
 
+/* A result that is a flag is one byte, all ones before the call. */
+static uint32_t frame;
+static bool ended;
+
+static void put_shown(void) {
+    uint8_t flag;
+    memcpy(&flag, &ended, sizeof flag);
+    put_status(), put(&frame, sizeof frame), put(&flag, sizeof flag);
+}
+
+static void player_frame(void) {
+    uint16_t loop_count = (uint16_t)get_value(), num = (uint16_t)get_value(), den = (uint16_t)get_value();
+    a = get_list(2);
+    status = player_frame_at(loop_count, num, den, a.at, a.count, get_value(), &frame, &ended);
+    put_shown();
+}
+
+static void player_tick_count(void) {
+    uint64_t ticks = UINT64_MAX;
+    uint32_t ms = (uint32_t)get_value();
+    uint16_t num = (uint16_t)get_value(), den = (uint16_t)get_value();
+    status = player_ticks(ms, num, den, &ticks);
+    put_status(), put(&ticks, sizeof ticks);
+}
+
+static void player_time(void) {
+    a = get_list(1);
+    status = player_frame_at_time(a.at, a.count, (uint32_t)get_value(), &frame, &ended, &first);
+    put_shown(), put_first();
+}
+
 /* In the order of SIGNATURES in raw.mjs. */
 static void (*const calls[])(void) = {
     read_file, entry, write_file, canonicalize, frames, frame_count, check_thumbnails, batch, unescape, escape, write_size,
-    canonical_size, unpremultiply, cmyk, default_from_white, ycgco, limited_luma,
+    canonical_size, unpremultiply, cmyk, default_from_white, ycgco, limited_luma, player_frame, player_tick_count, player_time,
 };
 
 int main(void) {

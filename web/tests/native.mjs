@@ -1,5 +1,6 @@
 // The module and the native library on generated and spoiled files: every status, result and byte of every buffer is to be the same.
-// WEB_FILES and WEB_SEED in the environment give other runs, WEB_STATUSES how often each call gave each status. Needs cc and target/staticlib/libbpg_export.a.
+// WEB_FILES and WEB_SEED in the environment give other runs, WEB_STATUSES how often each call gave each status. Needs cc and the static libraries in
+// target/staticlib.
 import { execFileSync, spawnSync } from 'node:child_process';
 import { existsSync, mkdirSync } from 'node:fs';
 import { fileURLToPath } from 'node:url';
@@ -11,15 +12,15 @@ const FILES = Number(process.env.WEB_FILES ?? 100000);
 const SEED = Number(process.env.WEB_SEED ?? 1);
 const CHUNK = 2000;
 const NAMES = Object.keys(SIGNATURES);
-const library = path('../../target/staticlib/libbpg_export.a');
+const libraries = ['bpg_export', 'loop_player_export'].map((name) => path(`../../target/staticlib/lib${name}.a`));
 const driver = path('../../target/web/native');
 
-if (!existsSync(library) || spawnSync('cc', ['--version']).error) {
-  console.log('native: skipped, the native library (rt staticlib bpg_export) or cc is not here');
+if (!libraries.every(existsSync) || spawnSync('cc', ['--version']).error) {
+  console.log('native: skipped, a native library (rt staticlib bpg_export, rt staticlib loop_player_export) or cc is not here');
   process.exit(0);
 }
 mkdirSync(path('../../target/web'), { recursive: true });
-execFileSync('cc', ['-O1', '-Wall', '-Wextra', '-Werror', '-o', driver, path('native.c'), library]);
+execFileSync('cc', ['-O1', '-Wall', '-Wextra', '-Werror', '-o', driver, path('native.c'), ...libraries]);
 
 const raw = new Raw();
 const random = new Random(SEED);
@@ -35,8 +36,7 @@ new Uint8Array(raw.exports.memory.buffer, 0, stack).fill(UNUSED);
 function request(name, given) {
   const parts = [Uint8Array.of(NAMES.indexOf(name))];
   for (const item of given) {
-    if (typeof item === 'bigint') parts.push(new BigUint64Array([item]));
-    else if (typeof item === 'number') parts.push(Uint8Array.of(item));
+    if (typeof item === 'bigint' || typeof item === 'number') parts.push(new BigUint64Array([BigInt(item)]));
     else parts.push(new Uint32Array([item.length]), item);
   }
   return Buffer.concat(parts.map((part) => new Uint8Array(part.buffer, part.byteOffset, part.byteLength)));
@@ -57,7 +57,7 @@ function compare(cases) {
     seen.set(answer[0], (seen.get(answer[0]) ?? 0) + 1);
     if (answer.equals(wanted)) continue;
     bad++;
-    if (bad <= 5) console.log(`${name} differs on ${Buffer.from(given[0].buffer).toString('hex').slice(0, 200)}`);
+    if (bad <= 5) console.log(`${name} differs on ${request(name, given).toString('hex').slice(0, 200)}`);
   }
   if (at !== native.stdout.length) throw new Error('the native driver answered more than was asked');
 }
@@ -73,6 +73,19 @@ function spoiltNumbers(numbers) {
 
 const filled = (array, length, value) => new array(length).fill(value);
 const near = (length) => Math.max(0, length + random.pick([0, 0, 0, -1, -2, 1, 20]));
+
+/** Loops, mostly such as can be played, at ticks of their first rounds and late ones. */
+function loopCalls() {
+  const number = () => random.pick([0, 1, 1, 2, 3, 10, 65535, random.below(100)]);
+  const count = random.pick([0, 1, 2, 3, 5, 8, 256, 257]);
+  const durations = Uint16Array.from({ length: count }, () => random.pick([1, 1, 2, 3, 500, 65535]));
+  if (random.once(8) && count > 0) durations[random.below(count)] = 0;
+  const tick = BigInt(random.pick([random.below(20), random.below(2 ** 30), 2 ** 52]));
+  return [
+    { name: 'player_frame_at', given: [number(), number(), number(), durations, tick] },
+    { name: 'player_ticks', given: [random.pick([random.below(5000), 2 ** 32 - 1]), number(), number()] },
+  ];
+}
 
 /** The calls on one file. */
 function callsOn(bytes) {
@@ -91,6 +104,8 @@ function callsOn(bytes) {
     add('bpg_write', numbers, bytes, filled(Uint8Array, near(bytes.length), 0xa5));
     add('bpg_write_size', numbers, bytes);
   }
+  add('player_frame_at_time', bytes, random.pick([0, random.below(5000), 2 ** 32 - 1]));
+  cases.push(...loopCalls());
   const slice = bytes.slice(random.below(bytes.length + 1));
   add(random.pick(['bpg_unescape', 'bpg_escape']), slice, filled(Uint8Array, near(slice.length + 4), 0xa5));
   return cases;

@@ -1,13 +1,13 @@
-// The calls of include/bpg.h as they are, over arrays: for the tests. Every array is put into the module's memory, and taken out again whole,
+// The calls of include/bpg.h and include/loop_player.h as they are, over arrays: for the tests. Every array is put into the module's memory, and taken out again whole,
 // so that what a call must leave as it was can be looked at.
 import { readFileSync } from 'node:fs';
 
-/** What each call takes, in order. A list has the size of its elements in bytes and may be written (`out`); `value` is a number of 64 bits,
- *  `byte` one of 8; a result has its size in bytes. */
+/** What each call takes, in order. A list has the size of its elements in bytes and may be written (`out`); `value` is a number of 64 bits, `small` one of at most
+ *  32; a result has its size in bytes. */
 const list = (size) => ({ kind: 'list', size, out: false });
 const outList = (size) => ({ kind: 'list', size, out: true });
 const value = { kind: 'value' };
-const byte = { kind: 'byte' };
+const small = { kind: 'small' };
 const result = (size) => ({ kind: 'result', size });
 const planes = (read, written) => [...Array(read).fill(list(2)), ...Array(written).fill(outList(2))];
 
@@ -24,12 +24,22 @@ export const SIGNATURES = {
   bpg_escape: [list(1), outList(1), result(8)],
   bpg_write_size: [list(8), list(1), result(8)],
   bpg_canonical_size: [list(1), result(8), result(8)],
-  bpg_unpremultiply: [...planes(4, 3), byte],
-  bpg_cmyk: [...planes(4, 4), byte],
-  bpg_default_from_white: [...planes(4, 3), byte],
-  bpg_ycgco: [...planes(3, 3), byte],
+  bpg_unpremultiply: [...planes(4, 3), small],
+  bpg_cmyk: [...planes(4, 4), small],
+  bpg_default_from_white: [...planes(4, 3), small],
+  bpg_ycgco: [...planes(3, 3), small],
   bpg_limited_luma: planes(1, 1),
+  player_frame_at: [small, small, small, list(2), value, result(4), result(1)],
+  player_ticks: [small, small, small, result(8)],
+  player_frame_at_time: [list(1), small, result(4), result(1), result(8)],
 };
+
+/** A number of 8, 4 or 1 bytes in the module's memory. */
+function number(memory, at, length) {
+  const view = new DataView(memory);
+  if (length === 8) return Number(view.getBigUint64(at, true));
+  return length === 4 ? view.getUint32(at, true) : view.getUint8(at);
+}
 
 export class Raw {
   constructor(path = new URL('../bpg.wasm', import.meta.url)) {
@@ -45,7 +55,7 @@ export class Raw {
     const lists = [];
     for (const { at, length, array } of places) {
       if (array !== undefined) lists.push(new array(memory.slice(at, at + length)));
-      else results.push(Number(length === 8 ? new DataView(memory).getBigUint64(at, true) : new DataView(memory).getUint32(at, true)));
+      else results.push(number(memory, at, length));
     }
     return { status, results, lists };
   }
@@ -72,9 +82,9 @@ export class Raw {
     const left = given.values();
     let at = base;
     for (const { kind, size, out } of signature) {
-      if (kind === 'value' || kind === 'byte') {
-        const number = left.next().value;
-        words.push(kind === 'value' ? BigInt(number) : number);
+      if (kind === 'value' || kind === 'small') {
+        const given = left.next().value;
+        words.push(kind === 'value' ? BigInt(given) : Number(given));
         continue;
       }
       const array = kind === 'list' ? left.next().value : undefined;

@@ -156,6 +156,26 @@ function samples(line) {
   if (status === '0') same(call, show(convert()), after);
 }
 
+function player(line) {
+  const show = ({ frame, ended }) => `0 frame ${frame} ended ${Number(ended)}`;
+  if (line.startsWith('frame')) {
+    const form = /^frame loops (\d+) num (\d+) den (\d+) durations (\S+) tick (\d+) => (.*)$/;
+    const [, loopCount, framePeriodNum, framePeriodDen, durations, tick, want] = line.match(form);
+    const given = [Number(loopCount), Number(framePeriodNum), Number(framePeriodDen), Uint16Array.from(numbers(durations)), BigInt(tick)];
+    const { status, results } = raw.call('player_frame_at', ...given);
+    same('frameAt', `${status} frame ${results[0]} ended ${results[1]}`, want);
+    const record = { loopCount: given[0], framePeriodNum: given[1], framePeriodDen: given[2] };
+    same('frameAt', answer(() => bpg.frameAt(record, given[3], given[4]), show), want.replace(/^37.*/, '37 at 0'));
+    return;
+  }
+  const [, ms, framePeriodNum, framePeriodDen, want] = line.match(/^ticks ms (\d+) num (\d+) den (\d+) => (.*)$/);
+  const given = [ms, framePeriodNum, framePeriodDen].map(Number);
+  const { status, results } = raw.call('player_ticks', ...given);
+  same('ticks', `${status} ticks ${results[0]}`, want);
+  const record = { framePeriodNum: given[1], framePeriodDen: given[2] };
+  same('ticks', answer(() => bpg.ticks(record, given[0]), (ticks) => `0 ticks ${ticks}`), want.replace(/^37.*/, '37 at 0'));
+}
+
 lines('read.txt').forEach(read);
 lines('canonical.txt').forEach(canonical);
 lines('write.jsonl').forEach(write);
@@ -164,6 +184,7 @@ lines('deep.txt').forEach(deep);
 lines('batch.txt').forEach(batch);
 lines('nal.txt').forEach(nal);
 lines('samples.txt').forEach(samples);
+lines('player.txt').forEach(player);
 const total = Object.values(counts).reduce((sum, count) => sum + count, 0);
 console.log(`vectors: ${total} answers (${Object.entries(counts).map(([name, count]) => `${name} ${count}`).join(', ')}), ${bad} differ`);
 process.exit(bad === 0 ? 0 : 1);

@@ -6,6 +6,7 @@ pub mod faults;
 pub mod frames;
 pub mod header;
 pub mod large;
+pub mod loops;
 pub mod model;
 pub mod nested;
 pub mod random;

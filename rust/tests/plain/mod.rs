@@ -14,6 +14,7 @@ mod header;
 mod list;
 mod marks;
 mod nal;
+pub mod player;
 mod reader;
 mod record;
 pub mod samples;

@@ -1,0 +1,3 @@
+-- The loop player.
+pub mod Player
+pub mod Requirements

@@ -1,0 +1,2 @@
+-- What the two libraries give together.
+pub mod Requirements
