@@ -1,0 +1,3 @@
+-- The partition of a file into head, entry heads, payloads, HEVC headers and data.
+pub mod Partitions
+pub mod Requirements
