@@ -31,6 +31,9 @@ const REASONS = {
   28: ['BadThumbnail', 'a thumbnail is itself refused'],
   29: ['LargeThumbnail', 'a thumbnail is wider or taller than its parent, or of its size'],
   30: ['BadBatch', 'the lengths do not add up to the buffer, or the lists differ in length'],
+  31: ['UnequalLengths', 'the planes and buffers of samples differ in length'],
+  32: ['BadSampleDepth', 'the depth of the samples is not 8 to 14'],
+  33: ['SampleTooLarge', 'a sample is above the largest of its depth'],
 };
 
 /** A call's refusal: its number, the offset in the file of what was refused (0 where none is named), its name and its words. */
