@@ -72,6 +72,18 @@ export interface Reading extends BpgRecord {
   codedHeight: number;
 }
 
+/** How many bytes of a file are of which kind: they add up to its length, and lie in it in this order, each entry head before its payload. */
+export interface Partition {
+  /** Up to the extension length, and with it. */
+  head: number;
+  /** The tags and lengths of the entries. */
+  entryHeads: number;
+  payloads: number;
+  /** The HEVC headers with their lengths. */
+  headers: number;
+  data: number;
+}
+
 /** A call's refusal. */
 export class BpgRefusal extends Error {
   constructor(status: number, offset?: number);
@@ -147,6 +159,9 @@ export class Bpg {
 
   /** Reads the files that stand end to end in a buffer and have these lengths: for each its refusal, or null where it is accepted. */
   batch(buffer: Uint8Array, lengths: ArrayLike<number>): (BpgRefusal | null)[];
+
+  /** How many bytes of a file are its head, entry heads, payloads, HEVC headers and data. */
+  partition(file: Uint8Array): Partition;
 
   /** The bytes of a NAL unit without its emulation prevention bytes. */
   unescape(unit: Uint8Array, out?: Uint8Array): Uint8Array;

@@ -20,7 +20,7 @@ const large = new Uint8Array(MAX_FILE).fill(0x55);
 large.set([...A, 0x80]);
 
 const refusal = (status, offset) => (error) => error instanceof BpgRefusal && error.status === status && error.offset === offset;
-const onFiles = ['read', 'entries', 'data', 'canonicalize', 'canonicalSize', 'frameCount', 'frames', 'checkThumbnails'];
+const onFiles = ['read', 'entries', 'data', 'canonicalize', 'canonicalSize', 'frameCount', 'frames', 'checkThumbnails', 'partition'];
 
 const tests = {
   'the examples read as they should'() {
@@ -30,6 +30,7 @@ const tests = {
     assert.deepEqual(record.entries, [{ tag: Tag.ANIMATION_CONTROL, start: 13, length: 3 }]);
     assert.deepEqual(bpg.canonicalize(B), A);
     assert.deepEqual(bpg.frames(D), Uint16Array.of(1, 3));
+    assert.deepEqual(bpg.partition(C), { head: 11, entryHeads: 2, payloads: 3, headers: 4, data: 2 });
   },
 
   'parts are the caller\'s own bytes'() {
@@ -170,7 +171,7 @@ const tests = {
     const before = instance.exports.memory.buffer.byteLength;
     const long = new Uint8Array(17 * 2 ** 20);
     long.set(A);
-    for (const name of ['read', 'canonicalize', 'canonicalSize', 'frames', 'frameCount', 'checkThumbnails']) assert.throws(() => bpg[name](long), refusal(1, 0));
+    for (const name of ['read', 'canonicalize', 'canonicalSize', 'frames', 'frameCount', 'checkThumbnails', 'partition']) assert.throws(() => bpg[name](long), refusal(1, 0));
     assert.equal(bpg.payload(long, 0).length + bpg.data(long).length + bpg.entries(long).length, 0);
     assert.ok(instance.exports.memory.buffer.byteLength - before <= 65536);
     assert.deepEqual(bpg.batch(long, [16, long.length - 16]).map((file) => file?.status), [undefined, 1]);

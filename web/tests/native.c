@@ -178,10 +178,17 @@ static void limited_luma(void) {
     put_samples(1, 1);
 }
 
+static void partition(void) {
+    size_t results[6] = {SIZE_MAX, SIZE_MAX, SIZE_MAX, SIZE_MAX, SIZE_MAX, SIZE_MAX};
+    a = get_list(1);
+    status = bpg_partition(a.at, a.count, results, results + 1, results + 2, results + 3, results + 4, results + 5);
+    put_status(), put(results, sizeof results);
+}
+
 /* In the order of SIGNATURES in raw.mjs. */
 static void (*const calls[])(void) = {
     read_file, entry, write_file, canonicalize, frames, frame_count, check_thumbnails, batch, unescape, escape, write_size,
-    canonical_size, unpremultiply, cmyk, default_from_white, ycgco, limited_luma,
+    canonical_size, unpremultiply, cmyk, default_from_white, ycgco, limited_luma, partition,
 };
 
 int main(void) {

@@ -29,6 +29,7 @@ export const SIGNATURES = {
   bpg_default_from_white: [...planes(4, 3), byte],
   bpg_ycgco: [...planes(3, 3), byte],
   bpg_limited_luma: planes(1, 1),
+  bpg_partition: [list(1), ...Array(6).fill(result(8))],
 };
 
 export class Raw {
@@ -65,7 +66,7 @@ export class Raw {
   // The call's parameters, and where its results and the lists that it may write stand. Results begin as all ones, which is no likely answer.
   #place(signature, given) {
     const base = this.exports.__heap_base.value;
-    this.#hold(given.reduce((sum, item) => sum + (item.byteLength ?? 0) + 16, base + 64));
+    this.#hold(given.reduce((sum, item) => sum + (item.byteLength ?? 0) + 16, base + 16 * signature.length));
     const bytes = new Uint8Array(this.exports.memory.buffer);
     const words = [];
     const places = [];
