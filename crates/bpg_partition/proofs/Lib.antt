@@ -4,3 +4,4 @@ pub mod CountLaws
 pub mod CallLaws
 pub mod PieceLaws
 pub mod Requirements
+pub mod Examples

@@ -17,7 +17,8 @@ use Rattle.bpg_format.specs.Rules.{Rules}
 use Rattle.bpg_format.specs.Records.{entriesAt}
 use Rattle.bpg_format.proofs.RuleLaws.{entry-size}
 use Rattle.bpg_format.proofs.RecordLaws.{headBytes as fixedBytes, beforeEntries, file-entries, before-length}
-use Rattle.bpg_partition.specs.Partitions.{headCount, entryHeadCount, payloadCount, headerCount, Kind, entryHead, payload, Piece, entryPieces, headBytes, headersBytes, pieces, laid, rank, countOf, rangesOf}
+use Rattle.bpg_partition.specs.Partitions.{headCount, entryHeadCount, payloadCount, headerCount}
+use Rattle.bpg_partition.specs.Pieces.{Kind, entryHead, payload, Piece, entryPieces, headPiece, headersPiece, pieces, laid, rank, countOf, rangesOfKind}
 use Rattle.bpg_partition.proofs.CountLaws.{head-start}
 
 -- ---- end to end
@@ -27,7 +28,7 @@ unfolding laid
 laid-entries [] rest = refl
 laid-entries (e ∷ es) rest = rw (laid-entries es rest) (simp append-assoc)
 
-pub head-is : (c : Content) → headBytes c ≡ beforeEntries c
+pub head-is : (c : Content) → headPiece c ≡ beforeEntries c
 unfolding fixedBytes beforeEntries
 head-is c = simp append-assoc
 
@@ -44,10 +45,10 @@ unfolding select
 select-length true l = refl
 select-length false l = refl
 
-pub head-length : (c : Content) → length (headBytes c) ≡ headCount c
+pub head-length : (c : Content) → length (headPiece c) ≡ headCount c
 head-length c = ap length (head-is c) ∙ before-length c ∙ sym (head-start c)
 
-pub headers-length : (c : Content) → length (headersBytes c) ≡ headerCount c
+pub headers-length : (c : Content) → length (headersPiece c) ≡ headerCount c
 unfolding headerCount
 headers-length c =
     length-append (select (hasAlpha (c .flags)) (headerBytes (c .alphaHeader)) []) (headerBytes (c .colorHeader))
@@ -70,8 +71,8 @@ starts : (e : Extension) (p : ℕ) → p + length (ue7Bytes (e .tag) ++ ue7Bytes
 starts e p = omega (arith, length-append (ue7Bytes (e .tag)) (ue7Bytes (length (e .payload))))
 
 pub payloads-lie : (es : List Extension) (p q : ℕ) (rest : List Piece) → p + length (blockBytes es) ≡ q
-    → rangesOf payload p (entryPieces es ++ rest) ≡ map (λ (e : Entry). e .payload) (entriesAt p es) ++ rangesOf payload q rest
-unfolding rangesOf select
+    → rangesOfKind payload p (entryPieces es ++ rest) ≡ map (λ (e : Entry). e .payload) (entriesAt p es) ++ rangesOfKind payload q rest
+unfolding rangesOfKind select
 payloads-lie [] p q rest h = let e : p ≡ q = omega arith in rw e
 payloads-lie (e ∷ es) p q rest h =
     let next = p + length (ue7Bytes (e .tag)) + length (ue7Bytes (length (e .payload))) + length (e .payload) in
@@ -85,10 +86,10 @@ module _ (k : Kind) (no-head : eqb 1 (rank k) ≡ false) (no-payload : eqb 2 (ra
   others-counted (e ∷ es) rest =
       omega (arith, select-false (length (ue7Bytes (e .tag) ++ ue7Bytes (length (e .payload)))) 0 no-head, select-false (length (e .payload)) 0 no-payload, others-counted es rest)
 
-  pub others-lie : (es : List Extension) (p q : ℕ) (rest : List Piece) → p + length (blockBytes es) ≡ q → rangesOf k p (entryPieces es ++ rest) ≡ rangesOf k q rest
-  unfolding rangesOf
+  pub others-lie : (es : List Extension) (p q : ℕ) (rest : List Piece) → p + length (blockBytes es) ≡ q → rangesOfKind k p (entryPieces es ++ rest) ≡ rangesOfKind k q rest
+  unfolding rangesOfKind
   others-lie [] p q rest h = let e : p ≡ q = omega arith in rw e
   others-lie (e ∷ es) p q rest h =
       let next = p + length (ue7Bytes (e .tag) ++ ue7Bytes (length (e .payload))) + length (e .payload) in
-      ap₂ (λ (a b : List Range). a ++ (b ++ rangesOf k next (entryPieces es ++ rest))) (select-false _ _ no-head) (select-false _ _ no-payload)
+      ap₂ (λ (a b : List Range). a ++ (b ++ rangesOfKind k next (entryPieces es ++ rest))) (select-false _ _ no-head) (select-false _ _ no-payload)
       ∙ others-lie es next q rest (omega (arith, starts e p, entry-size e es, h))

@@ -20,10 +20,10 @@ use Rattle.bpg_format.specs.Parts.{recordIn}
 use Rattle.bpg_format.proofs.ReadingLaws.{reads, answer}
 use Rattle.bpg_format.proofs.RecordLaws.{used-entries}
 use Rattle.bpg_partition.specs.declared.answer.Partition.{Partition}
-use Rattle.bpg_partition.specs.Partitions.{headCount, entryHeadCount, payloadCount, headerCount, dataCount, partitionOf, partitionAnswer}
-use Rattle.bpg_partition.specs.Partitions.{Piece, piece, entryPieces, theHead, entryHead, payload, theHeaders, theData, headBytes, headersBytes, pieces, countOf, rangesOf}
+use Rattle.bpg_partition.specs.Partitions.{headCount, entryHeadCount, payloadCount, headerCount, dataCount, partitionOf, partitionAnswer, payloadBytes}
+use Rattle.bpg_partition.specs.Pieces.{Piece, piece, entryPieces, theHead, entryHead, payload, theHeaders, theData, headPiece, headersPiece, pieces, countOf, rangesOfKind}
 use Rattle.bpg_partition.specs.Requirements.{beforeData, Partitioned, Partitions, NoPartition}
-use Rattle.bpg_partition.proofs.CountLaws.{head-start, block-count, data-start, adds-up}
+use Rattle.bpg_partition.proofs.CountLaws.{head-start, block-count, data-start, adds-up, record-payloads}
 use Rattle.bpg_partition.proofs.PieceLaws.{laid-file, heads-counted, payloads-counted, payloads-lie, others-counted, others-lie, head-length, headers-length}
 
 -- ---- the pieces of a content
@@ -31,7 +31,7 @@ use Rattle.bpg_partition.proofs.PieceLaws.{laid-file, heads-counted, pa
 module _ (c : Content) where
   -- what follows the entries
   abbrev after : List Piece
-  after = piece theHeaders (headersBytes c) ∷ piece theData (c .hevcData) ∷ []
+  after = piece theHeaders (headersPiece c) ∷ piece theData (c .hevcData) ∷ []
 
   counted-head : countOf theHead (pieces c) ≡ headCount c
   unfolding pieces countOf select
@@ -54,28 +54,28 @@ module _ (c : Content) where
   counted-data = omega (arith, others-counted theData refl refl (c .extensions) after)
 
   -- the head ends where the first entry stands
-  head-end : 0 + length (headBytes c) ≡ blockStart c
+  head-end : 0 + length (headPiece c) ≡ blockStart c
   head-end = omega (arith, head-length c, head-start c)
 
-  lie-payloads : rangesOf payload 0 (pieces c) ≡ map (λ (e : Entry). e .payload) (usedEntries (recordOf c))
-  unfolding pieces rangesOf select recordOf
+  lie-payloads : rangesOfKind payload 0 (pieces c) ≡ map (λ (e : Entry). e .payload) (usedEntries (recordOf c))
+  unfolding pieces rangesOfKind select recordOf
   lie-payloads =
-      ap (λ (n : ℕ). rangesOf payload n (entryPieces (c .extensions) ++ after)) head-end
+      ap (λ (n : ℕ). rangesOfKind payload n (entryPieces (c .extensions) ++ after)) head-end
       ∙ payloads-lie (c .extensions) (blockStart c) _ after refl ∙ append-nil _
       ∙ ap (map (λ (e : Entry). e .payload)) (sym (used-entries (blockStart c) (c .extensions)))
 
-  lie-data : rangesOf theData 0 (pieces c) ≡ recordOf c .«data» ∷ []
-  unfolding pieces rangesOf select recordOf
+  lie-data : rangesOfKind theData 0 (pieces c) ≡ recordOf c .«data» ∷ []
+  unfolding pieces rangesOfKind select recordOf
   lie-data =
-      let start : blockStart c + length (blockBytes (c .extensions)) + length (headersBytes c) ≡ dataStart c = omega (arith, headers-length c, head-start c, data-start c) in
-      ap (λ (n : ℕ). rangesOf theData n (entryPieces (c .extensions) ++ after)) head-end
+      let start : blockStart c + length (blockBytes (c .extensions)) + length (headersPiece c) ≡ dataStart c = omega (arith, headers-length c, head-start c, data-start c) in
+      ap (λ (n : ℕ). rangesOfKind theData n (entryPieces (c .extensions) ++ after)) head-end
       ∙ others-lie theData refl refl (c .extensions) (blockStart c) _ after refl
       ∙ ap (λ (n : ℕ). range n (length (c .hevcData)) ∷ []) start
 
 -- ---- the partition of an accepted file
 
 partitioned : (c : Content) → Rules c → Partitioned (fileOf c) c
-unfolding partitionAnswer recordOf
+unfolding partitionAnswer recordOf dataCount
 partitioned c r =
     let is = ap partitionOf (reads c r) in
     let record-is : recordIn (fileOf c) ≡ recordOf c = ap (λ (x : Reading). x .«record») (answer c r) in
@@ -91,6 +91,8 @@ partitioned c r =
       data-bytes = ap (λ (p : Partition). p .«data») is ∙ sym (counted-data c);
       payload-ranges = ap (λ (x : Record). map (λ (e : Entry). e .payload) (usedEntries x)) record-is ∙ sym (lie-payloads c);
       data-range = ap (λ (x : Record). x .«data» ∷ []) record-is ∙ sym (lie-data c);
+      payload-lengths = ap (λ (p : Partition). p .payloads) is ∙ sym (ap (λ (x : Record). payloadBytes (usedEntries x)) record-is ∙ record-payloads c);
+      data-length = ap (λ (p : Partition). p .«data») is ∙ sym (ap (λ (x : Record). x .«data» .length) record-is);
       data-start = ap (λ (x : Record). x .«data» .start) record-is ∙ start ∙ sym (ap beforeData is);
     }
 

@@ -11,7 +11,8 @@ use Rattle.bpg_format.specs.Rules.{Accepted}
 use Rattle.bpg_format.specs.Records.{usedEntries, readFile}
 use Rattle.bpg_format.specs.Parts.{recordIn}
 use Rattle.bpg_partition.specs.declared.answer.Partition.{Partition}
-use Rattle.bpg_partition.specs.Partitions.{partitionOf, partitionAnswer, theHead, entryHead, payload, theHeaders, theData, pieces, laid, countOf, rangesOf}
+use Rattle.bpg_partition.specs.Partitions.{partitionOf, partitionAnswer, payloadBytes}
+use Rattle.bpg_partition.specs.Pieces.{theHead, entryHead, payload, theHeaders, theData, pieces, laid, countOf, rangesOfKind}
 
 -- "the head's bytes, entry heads, payloads, HEVC headers with their lengths, and data, each counted by its own definition, add up to the file length"
 abbrev pub beforeData : Partition → ℕ
@@ -32,9 +33,11 @@ module _ (f : List ℕ) where
     pub headers : partitionAnswer f .headers ≡ countOf theHeaders (pieces c)
     pub data-bytes : partitionAnswer f .«data» ≡ countOf theData (pieces c)
     -- the record's ranges are where payloads and data lie among the pieces
-    pub payload-ranges : map (λ (e : Entry). e .payload) (usedEntries (recordIn f)) ≡ rangesOf payload 0 (pieces c)
-    pub data-range : recordIn f .«data» ∷ [] ≡ rangesOf theData 0 (pieces c)
-    -- and so the data starts after all the rest
+    pub payload-ranges : map (λ (e : Entry). e .payload) (usedEntries (recordIn f)) ≡ rangesOfKind payload 0 (pieces c)
+    pub data-range : recordIn f .«data» ∷ [] ≡ rangesOfKind theData 0 (pieces c)
+    -- and the counts are the lengths of these ranges; the data starts after all the rest
+    pub payload-lengths : partitionAnswer f .payloads ≡ payloadBytes (usedEntries (recordIn f))
+    pub data-length : partitionAnswer f .«data» ≡ recordIn f .«data» .length
     pub data-start : recordIn f .«data» .start ≡ beforeData (partitionAnswer f)
 
 abbrev pub Partitions : Type 0
