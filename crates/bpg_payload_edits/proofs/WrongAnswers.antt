@@ -100,5 +100,6 @@ length-matters : ¬ ((chosen : ℕ → Type 0) (f g : List ℕ) → Accepted f �
     → readFile g ≡ readFile f)
 length-matters holds =
     let same =
-    holds (λ _. ⊥) fileA longer (reading .only-accepted fileA (all-small fileA tt) (answers .a-status)) (all-small longer tt) (λ k h t. h) (λ offset h out. List·getD-append fileA (0 ∷ []) 0 offset h) in
+    holds (λ _. ⊥) fileA longer (reading .only-accepted fileA (all-small fileA tt) (answers .a-status)) (all-small longer tt)
+    (λ k h t. h) (λ offset h out. List·getD-append fileA (0 ∷ []) 0 offset h) in
     absurd (omega (arith, ap (λ (x : Reading). x .«record» .«data» .length) same, answers .a-data, answers .longer-data))
