@@ -493,6 +493,15 @@ static void samples(void) {
     CHECK(p[0] == 130);
 }
 
+static void partitions(void) {
+    size_t head, entry_heads, payloads, headers, data, offset;
+    ANSWERED(bpg_partition(C, sizeof C, &head, &entry_heads, &payloads, &headers, &data, &offset), BPG_OK);
+    CHECK(head == 11 && entry_heads == 2 && payloads == 3 && headers == 4 && data == 2 && offset == 0);
+    CHECK(head + entry_heads + payloads + headers + data == sizeof C);
+    ANSWERED(bpg_partition(C, 9, &head, &entry_heads, &payloads, &headers, &data, &offset), BPG_TRUNCATED);
+    CHECK(head == 0 && entry_heads == 0 && payloads == 0 && headers == 0 && data == 0 && offset == 9);
+}
+
 static void escapes(void) {
     static const uint8_t bytes[] = {0x26, 0x00, 0x00, 0x01}, unit[] = {0x26, 0x00, 0x00, 0x03, 0x01};
     uint8_t out[sizeof unit];
@@ -619,6 +628,7 @@ int main(void) {
     frame_examples();
     thumbnails();
     batches();
+    partitions();
     samples();
     escapes();
     player();

@@ -5,7 +5,7 @@
  *   - a pointer that is null or not aligned (with a length of 0 pass any valid address), or memory that is shorter than its length says;
  *   - memory that is written and overlaps anything else that is passed: out, or a list (numbers, durations), with file, source, unit, bytes
  *     or numbers; the two lists of bpg_batch with each other, buffer or lengths; a buffer of the calls on samples with another buffer or a
- *     plane; the results (*offset, *count, *tag, *start, *length) with each other or with these;
+ *     plane; the results (*offset, *count, *tag, *start, *length, the counts of bpg_partition) with each other or with these;
  *   - memory that another thread changes during a call;
  *   - this header itself: its declarations, and the inline functions, which are plain C over the proved ones. c/test compiles it as C and
  *     as C++ and runs all of it.
@@ -263,6 +263,12 @@ uint8_t bpg_check_thumbnails(const uint8_t *file, size_t file_len, size_t *offse
  * than a file may be. The only refusal of the call is 30, and leaves both lists as they were. No file in an empty buffer is fine. */
 uint8_t bpg_batch(const uint8_t *buffer, size_t buffer_len, const uint32_t *lengths, size_t lengths_len, uint8_t *statuses,
                   size_t statuses_len, uint32_t *offsets, size_t offsets_len);
+
+/* How many bytes of a file are its head (with the extension length), the tags and lengths of its entries, their payloads, the HEVC headers with
+ * their lengths, and the data. They add up to file_len, and lie in the file in this order, each entry's tag and length before its payload.
+ * Refusals are those of bpg_read, with their *offset; the counts are then 0. */
+uint8_t bpg_partition(const uint8_t *file, size_t file_len, size_t *head, size_t *entry_heads, size_t *payloads, size_t *headers,
+                      size_t *data, size_t *offset);
 
 /* Writes the bytes of a NAL unit without its emulation prevention bytes from the start of out; *count is their number, 0 if refused: 22 for
  * a unit that breaks an emulation rule, then 20. */

@@ -78,6 +78,18 @@ export interface Shown {
   ended: boolean;
 }
 
+/** How many bytes of a file are of which kind: they add up to its length, and lie in it in this order, each entry head before its payload. */
+export interface Partition {
+  /** Up to the extension length, and with it. */
+  head: number;
+  /** The tags and lengths of the entries. */
+  entryHeads: number;
+  payloads: number;
+  /** The HEVC headers with their lengths. */
+  headers: number;
+  data: number;
+}
+
 /** A call's refusal. */
 export class BpgRefusal extends Error {
   constructor(status: number, offset?: number);
@@ -162,6 +174,9 @@ export class Bpg {
 
   /** The frame of a file that stands at a time in milliseconds, below 2^32. */
   frameAtTime(file: Uint8Array, ms: number): Shown;
+
+  /** How many bytes of a file are its head, entry heads, payloads, HEVC headers and data. */
+  partition(file: Uint8Array): Partition;
 
   /** The bytes of a NAL unit without its emulation prevention bytes. */
   unescape(unit: Uint8Array, out?: Uint8Array): Uint8Array;

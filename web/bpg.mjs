@@ -218,6 +218,18 @@ export class Bpg {
     return Array.from(memory.bytes.subarray(statusesAt, statusesAt + count), refusal);
   }
 
+  /** How many bytes of a file are its head, the tags and lengths of its entries, their payloads, the HEVC headers with their lengths, and the data:
+   *  together they are the file. */
+  partition(file) {
+    const bytes = fileBytes(file);
+    this.#put(bytes);
+    const { room, results } = this.#memory;
+    const status = this.#calls.bpg_partition(room, BigInt(bytes.length), results, results + 8, results + 16, results + 24, results + 32, results + 40);
+    const [head, entryHeads, payloads, headers, data, offset] = [0, 1, 2, 3, 4, 5].map((k) => this.#memory.result(k));
+    this.#accepted(status & 0xff, offset);
+    return { head, entryHeads, payloads, headers, data };
+  }
+
   /** The bytes of a NAL unit without its emulation prevention bytes: a new array, or the start of `out`. */
   unescape(unit, out) {
     return this.#copied('bpg_unescape', unit, (length) => length, out);

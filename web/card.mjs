@@ -28,7 +28,8 @@ export class Card {
     this.#bytes = element('details', { className: 'bytes-of' });
     const record = attempt(() => bpg.read(file));
     this.accepted = !(record instanceof BpgRefusal);
-    const parts = this.accepted ? fileParts(file, record) : [];
+    const partition = this.accepted ? bpg.partition(file) : undefined;
+    const parts = this.accepted ? fileParts(record, partition) : [];
     this.#hex = new HexView(name, file, parts);
     this.#bytes.append(element('summary', { textContent: 'Bytes' }), this.#hex.element);
     const verdict = element('p', { className: 'verdict', textContent: this.accepted ? 'accepted' : 'refused' });
@@ -36,7 +37,7 @@ export class Card {
     const head = element('header', {}, title, verdict, element('p', { className: 'size', textContent: bytesText(file.length) }));
     head.append(button('Remove', remove, { 'aria-label': `Remove ${name}` }));
     this.element = element('article', { className: this.accepted ? 'accepted' : 'refused', 'aria-label': name }, head);
-    if (this.accepted) this.#showAccepted(bpg, file, record, parts);
+    if (this.accepted) this.#showAccepted(bpg, file, record, parts, partition);
     else this.element.append(this.#refusal(record), this.#bytes);
     this.#showAt(this.accepted ? 0 : record.offset, !this.accepted);
   }
@@ -46,11 +47,11 @@ export class Card {
     this.#same.textContent = names.length === 0 ? '' : `Same picture as ${names.join(', ')}`;
   }
 
-  #showAccepted(bpg, file, record, parts) {
+  #showAccepted(bpg, file, record, parts, partition) {
     this.canonical = bpg.canonicalize(file);
     this.element.append(
       element('dl', {}, ...particulars(record).map(particular)),
-      section('Parts', this.#bar(parts), this.#legend(parts)),
+      section('Parts', this.#bar(parts), this.#legend(partition)),
       element(
         'div',
         { className: 'columns' },
@@ -99,11 +100,9 @@ export class Card {
     return bar;
   }
 
-  #legend(parts) {
-    const items = Object.entries(KINDS).map(([kind, name]) => {
-      const sum = parts.filter((part) => part.kind === kind).reduce((total, { length }) => total + length, 0);
-      return element('li', {}, element('span', { className: `swatch ${kind}` }), `${name} ${sum.toLocaleString('en')}`);
-    });
+  #legend(partition) {
+    const item = ({ kind, name, bytes }) => element('li', {}, element('span', { className: `swatch ${kind}` }), `${name} ${bytes(partition).toLocaleString('en')}`);
+    const items = KINDS.map(item);
     return element('ul', { className: 'legend' }, ...items);
   }
 

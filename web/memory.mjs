@@ -2,7 +2,7 @@
 // rest, one array after another. All of it is reused by the next call. It grows where a call needs more, and never shrinks.
 
 const PAGE = 65536;
-const RESULTS = 4;
+const RESULTS = 6;
 
 const aligned = (address) => Math.ceil(address / 16) * 16;
 

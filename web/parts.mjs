@@ -43,23 +43,15 @@ export function timeText(seconds) {
   return `${Math.floor(seconds / 60)} min ${rounded(seconds % 60)} s`;
 }
 
-// The offset after the ue7 number at this one, in a file that was accepted.
-function afterNumber(file, at) {
-  while (file[at] >= 0x80) at++;
-  return at + 1;
-}
-
 /** The parts of an accepted file in order, each with kind, name, start and length: together they are the file. */
-export function fileParts(file, record) {
+export function fileParts(record, partition) {
   const parts = [];
   let at = 0;
   const upTo = (end, kind, name) => {
     if (end > at) parts.push({ kind, name, start: at, length: end - at });
     at = end;
   };
-  let head = 6;
-  for (let numbers = record.extensionPresentFlag ? 4 : 3; numbers > 0; numbers--) head = afterNumber(file, head);
-  upTo(head, 'head', 'head');
+  upTo(partition.head, 'head', 'head');
   for (const { tag, start, length } of record.entries) {
     upTo(start, 'entry-head', `entry head of ${tagName(tag)}`);
     upTo(start + length, 'payload', `payload of ${tagName(tag)}`);
@@ -69,5 +61,11 @@ export function fileParts(file, record) {
   return parts;
 }
 
-/** The kinds of parts in their order, with the name of all parts of a kind. */
-export const KINDS = { head: 'head', 'entry-head': 'entry heads', payload: 'payloads', headers: 'HEVC headers', data: 'HEVC data' };
+/** The kinds of parts in their order: the name of all parts of a kind, and how many bytes a partition says that they have. */
+export const KINDS = [
+  { kind: 'head', name: 'head', bytes: ({ head }) => head },
+  { kind: 'entry-head', name: 'entry heads', bytes: ({ entryHeads }) => entryHeads },
+  { kind: 'payload', name: 'payloads', bytes: ({ payloads }) => payloads },
+  { kind: 'headers', name: 'HEVC headers', bytes: ({ headers }) => headers },
+  { kind: 'data', name: 'HEVC data', bytes: ({ data }) => data },
+];

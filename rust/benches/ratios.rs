@@ -44,6 +44,9 @@ fn main() {
             reading(entries, alpha);
         }
     }
+    for entries in [0, 16] {
+        partitioning(entries);
+    }
     let batched = batch();
     for (name, size) in SIZES {
         writing_list(name, size);
@@ -146,6 +149,23 @@ fn reading_sizes() -> f64 {
         ],
     );
     race.ratio(0, 1)
+}
+
+fn partitioning(entries: usize) {
+    let file = &sample::file(entries, true, 200)[..];
+    let race = Race::run::<()>(
+        &mut [],
+        [
+            &mut |_| {
+                black_box(bpg::ffi::partition(black_box(file)));
+            },
+            &mut |_| {
+                black_box(plain::partition(black_box(file))).expect("the file is valid");
+            },
+        ],
+    );
+    let name = format!("{entries} entries, alpha");
+    row("bpg_partition", &name, &race, [0, 1]);
 }
 
 /// The files of an hour, against as many calls for one file.

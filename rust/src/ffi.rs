@@ -86,6 +86,16 @@ extern "C" {
         offsets: *mut u32,
         offsets_len: usize,
     ) -> u8;
+    fn bpg_partition(
+        file: *const u8,
+        file_len: usize,
+        head: *mut usize,
+        entry_heads: *mut usize,
+        payloads: *mut usize,
+        headers: *mut usize,
+        data: *mut usize,
+        offset: *mut usize,
+    ) -> u8;
     fn bpg_unescape(
         unit: *const u8,
         unit_len: usize,
@@ -311,6 +321,25 @@ pub fn batch(buffer: &[u8], lengths: &[u32], statuses: &mut [u8], offsets: &mut 
             offsets.len(),
         )
     }
+}
+
+/// Status, the five counts in the order of the file, and offset.
+pub fn partition(file: &[u8]) -> (u8, [usize; 5], usize) {
+    let [mut head, mut entry_heads, mut payloads, mut headers, mut data, mut offset] = [UNSET; 6];
+    // SAFETY: pointers and lengths of slices and of locals; see above.
+    let status = unsafe {
+        bpg_partition(
+            file.as_ptr(),
+            file.len(),
+            &mut head,
+            &mut entry_heads,
+            &mut payloads,
+            &mut headers,
+            &mut data,
+            &mut offset,
+        )
+    };
+    (status, [head, entry_heads, payloads, headers, data], offset)
 }
 
 /// Status and count; on success that many bytes stand at the start of `out`.

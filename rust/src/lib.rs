@@ -56,6 +56,7 @@ mod kinds;
 mod number;
 #[cfg(feature = "player")]
 pub mod player;
+mod partition;
 mod read;
 mod record;
 mod refusal;
@@ -75,6 +76,7 @@ pub use frames::frames_to_vec;
 pub use frames::{frame_count, frames};
 pub use header::HevcHeader;
 pub use kinds::{tag, AlphaKind, ColorSpace, PixelFormat, MAX_ENTRIES, MAX_FILE};
+pub use partition::{partition, Partition};
 pub use read::{data, entries, entry, payload, read};
 pub use record::Record;
 pub use refusal::{Reason, Refusal};

@@ -3,7 +3,8 @@
 //!
 //! `BPG_SEED` gives another run; `BPG_FILES`, `BPG_RECORDS`, `BPG_FRAMED` (files whose data is made of units,
 //! for the calls on frames), `BPG_SLICES` (for emulation prevention), `BPG_NESTED` (files with thumbnails),
-//! `BPG_BATCHES`, `BPG_SAMPLES` and `BPG_LOOPS` another number of cases. A difference fails the test and prints the case and both answers.
+//! `BPG_BATCHES`, `BPG_PARTED` (files for their partition), `BPG_SAMPLES` and `BPG_LOOPS` another number of cases. A difference
+//! fails the test and prints the case and both answers.
 
 mod cases;
 mod held;
@@ -13,7 +14,10 @@ use std::env;
 use std::thread;
 
 use cases::{batches, large, nested, records, samples, Random};
-use held::{Buffers, Cases, Statuses, Table, BATCH_STATUSES, SAMPLE_STATUSES, THUMBNAIL_STATUSES};
+use held::{
+    Buffers, Cases, Statuses, Table, BATCH_STATUSES, PARTITION_STATUSES, SAMPLE_STATUSES,
+    THUMBNAIL_STATUSES,
+};
 
 const THREADS: u64 = 2;
 
@@ -82,6 +86,27 @@ fn the_batch_agrees_with_plain_rust() {
     println!("{statuses}\n{batches} batches, and some large");
     let rare = statuses.rare(100);
     assert!(rare.is_empty(), "met fewer than 100 times: {rare:?}");
+}
+
+#[test]
+fn the_partition_agrees_with_plain_rust() {
+    let seed = setting("BPG_SEED", 20_150_425);
+    let files = setting("BPG_PARTED", 300_000);
+    let mut random = Random::new(seed.wrapping_add(THREADS + 4));
+    let mut statuses = Statuses::new("partition", PARTITION_STATUSES);
+    let mut edited = 0;
+    for _ in 0..files {
+        let file = cases::file(&mut random);
+        held::partition(&file, &mut statuses);
+        edited += u64::from(held::edited(&file, &mut random));
+    }
+    for size in [plain::MAX_FILE, plain::MAX_FILE + 1] {
+        held::partition(&large::long_buffer(1)[..size], &mut statuses);
+    }
+    println!("{statuses}\n{files} files for their partition, {edited} of them edited in place");
+    let rare = statuses.rare(100);
+    assert!(rare.is_empty(), "met fewer than 100 times: {rare:?}");
+    assert!(edited >= files / 20, "few files with a payload to edit");
 }
 
 #[test]

@@ -22,7 +22,7 @@ large.set([...A, 0x80]);
 const refusal = (status, offset) => (error) => error instanceof BpgRefusal && error.status === status && error.offset === offset;
 // For the player: it takes a time besides the file.
 const atTime = (file) => bpg.frameAtTime(file, 0);
-const onFiles = ['read', 'entries', 'data', 'canonicalize', 'canonicalSize', 'frameCount', 'frames', 'checkThumbnails'];
+const onFiles = ['read', 'entries', 'data', 'canonicalize', 'canonicalSize', 'frameCount', 'frames', 'checkThumbnails', 'partition'];
 
 const tests = {
   'the examples read as they should'() {
@@ -37,6 +37,7 @@ const tests = {
     const twice = { ...record, loopCount: 2 };
     assert.deepEqual(bpg.frameAt(twice, bpg.frames(D), bpg.ticks(twice, 799)), { frame: 1, ended: false });
     assert.deepEqual(bpg.frameAt(twice, bpg.frames(D), bpg.ticks(twice, 800)), { frame: 1, ended: true });
+    assert.deepEqual(bpg.partition(C), { head: 11, entryHeads: 2, payloads: 3, headers: 4, data: 2 });
   },
 
   'parts are the caller\'s own bytes'() {
@@ -186,7 +187,7 @@ const tests = {
     const before = instance.exports.memory.buffer.byteLength;
     const long = new Uint8Array(17 * 2 ** 20);
     long.set(A);
-    for (const name of ['read', 'canonicalize', 'canonicalSize', 'frames', 'frameCount', 'checkThumbnails']) assert.throws(() => bpg[name](long), refusal(1, 0));
+    for (const name of ['read', 'canonicalize', 'canonicalSize', 'frames', 'frameCount', 'checkThumbnails', 'partition']) assert.throws(() => bpg[name](long), refusal(1, 0));
     assert.equal(bpg.payload(long, 0).length + bpg.data(long).length + bpg.entries(long).length, 0);
     assert.ok(instance.exports.memory.buffer.byteLength - before <= 65536);
     assert.deepEqual(bpg.batch(long, [16, long.length - 16]).map((file) => file?.status), [undefined, 1]);

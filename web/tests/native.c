@@ -209,10 +209,17 @@ static void player_time(void) {
     put_shown(), put_first();
 }
 
+static void partition(void) {
+    size_t results[6] = {SIZE_MAX, SIZE_MAX, SIZE_MAX, SIZE_MAX, SIZE_MAX, SIZE_MAX};
+    a = get_list(1);
+    status = bpg_partition(a.at, a.count, results, results + 1, results + 2, results + 3, results + 4, results + 5);
+    put_status(), put(results, sizeof results);
+}
+
 /* In the order of SIGNATURES in raw.mjs. */
 static void (*const calls[])(void) = {
     read_file, entry, write_file, canonicalize, frames, frame_count, check_thumbnails, batch, unescape, escape, write_size,
-    canonical_size, unpremultiply, cmyk, default_from_white, ycgco, limited_luma, player_frame, player_tick_count, player_time,
+    canonical_size, unpremultiply, cmyk, default_from_white, ycgco, limited_luma, player_frame, player_tick_count, player_time, partition,
 };
 
 int main(void) {

@@ -98,6 +98,7 @@ function callsOn(bytes) {
   add('bpg_frames', bytes, filled(Uint16Array, random.below(12), 9999));
   add('bpg_frame_count', bytes);
   add('bpg_check_thumbnails', bytes);
+  add('bpg_partition', bytes);
   const reading = raw.call('bpg_read', bytes, filled(BigUint64Array, 130, 0n));
   if (reading.status === 0) {
     const numbers = spoiltNumbers(reading.lists[0]);

@@ -93,6 +93,17 @@ const tests = {
     assert.deepEqual([names[0], names[1], names[2], ...names.slice(-2)], ['head', 'entry head of EXIF', 'payload of EXIF', 'HEVC headers', 'HEVC data']);
   },
 
+  async 'the legend has the partition of the file, and the parts of the bar add up to it'() {
+    const file = Uint8Array.from(loop());
+    const wanted = Object.values((await load()).partition(file)).map((count) => count.toLocaleString('en'));
+    const legend = await browser.value(`[...${card('loop.bpg')}.querySelectorAll('.legend li')].map((item) => item.innerText)`);
+    const names = ['head', 'entry heads', 'payloads', 'HEVC headers', 'HEVC data'];
+    assert.deepEqual(legend.map((item) => item.trim()), names.map((name, k) => `${name} ${wanted[k]}`));
+    const kinds = await browser.value(`[...${card('loop.bpg')}.querySelectorAll('.bar button')].map((part) => [part.className, Number(part.style.flexGrow)])`);
+    const sum = (kind) => kinds.filter(([name]) => name === kind).reduce((total, [, length]) => total + length, 0);
+    assert.deepEqual(['head', 'entry-head', 'payload', 'headers', 'data'].map((kind) => sum(kind).toLocaleString('en')), wanted);
+  },
+
   async 'files of one picture say so'() {
     assert.ok((await text(card('a.bpg'))).includes('Same picture as b.bpg'));
     assert.ok((await text(card('b.bpg'))).includes('Same picture as a.bpg'));

@@ -32,6 +32,7 @@ export const SIGNATURES = {
   player_frame_at: [small, small, small, list(2), value, result(4), result(1)],
   player_ticks: [small, small, small, result(8)],
   player_frame_at_time: [list(1), small, result(4), result(1), result(8)],
+  bpg_partition: [list(1), ...Array(6).fill(result(8))],
 };
 
 /** A number of 8, 4 or 1 bytes in the module's memory. */
@@ -75,7 +76,7 @@ export class Raw {
   // The call's parameters, and where its results and the lists that it may write stand. Results begin as all ones, which is no likely answer.
   #place(signature, given) {
     const base = this.exports.__heap_base.value;
-    this.#hold(given.reduce((sum, item) => sum + (item.byteLength ?? 0) + 16, base + 64));
+    this.#hold(given.reduce((sum, item) => sum + (item.byteLength ?? 0) + 16, base + 16 * signature.length));
     const bytes = new Uint8Array(this.exports.memory.buffer);
     const words = [];
     const places = [];

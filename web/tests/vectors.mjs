@@ -142,6 +142,14 @@ function nal(line) {
   same('escape', hex(bpg.escape(bytes(undone))), redone.replace('-', ''));
 }
 
+function parts(line) {
+  const [file, want] = line.split(' => ');
+  const got = raw.call('bpg_partition', bytes(file));
+  const text = ([head, entryHeads, payloads, headers, data]) => `head ${head} entry heads ${entryHeads} payloads ${payloads} headers ${headers} data ${data}`;
+  same('partition', `${got.status} ${text(got.results)} ${got.results[5]}`, `0 ${want} 0`);
+  same('partition', answer(() => bpg.partition(bytes(file)), (counts) => text(Object.values(counts))), want);
+}
+
 const CONVERSIONS = { premultiplied: 'unpremultiply', cmyk: 'cmyk', white: 'defaultFromWhite', ycgco: 'ycgco', luma: 'limitedLuma' };
 
 function samples(line) {
@@ -185,6 +193,7 @@ lines('batch.txt').forEach(batch);
 lines('nal.txt').forEach(nal);
 lines('samples.txt').forEach(samples);
 lines('player.txt').forEach(player);
+lines('parts.txt').forEach(parts);
 const total = Object.values(counts).reduce((sum, count) => sum + count, 0);
 console.log(`vectors: ${total} answers (${Object.entries(counts).map(([name, count]) => `${name} ${count}`).join(', ')}), ${bad} differ`);
 process.exit(bad === 0 ? 0 : 1);

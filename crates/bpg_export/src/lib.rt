@@ -1,6 +1,7 @@
 // The library for C and Rust: numbers and slices alone. include/bpg.h declares these functions for C.
 mod batch;
 mod frames;
+mod partition;
 mod samples;
 mod sizes;
 mod thumbnails;

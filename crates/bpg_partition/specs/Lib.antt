@@ -1,0 +1,5 @@
+-- The partition of a file into head, entry heads, payloads, HEVC headers and data.
+pub mod Partitions
+pub mod Pieces
+pub mod Examples
+pub mod Requirements

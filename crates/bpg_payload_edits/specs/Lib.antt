@@ -1,0 +1,3 @@
+-- Payloads edited in place.
+pub mod Edits
+pub mod Requirements
