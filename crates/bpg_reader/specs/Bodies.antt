@@ -16,7 +16,7 @@ use Rattle.bpg_format.specs.Tests.{dataAllowed}
 use Rattle.bpg_format.specs.Read.{Head, readHead, animationOf}
 use Rattle.bpg_read_head.specs.declared.head.Head.{Head as HeadReading}
 use Rattle.bpg_read_head.specs.FlagBytes.{flagFields}
-use Rattle.bpg_reader.specs.declared.body.Stop.{Stop}
+use Rattle.bpg_reader.specs.declared.rest.Stop.{Stop}
 
 -- what a head that was read says
 abbrev pub headFields : HeadReading → Head

@@ -1,5 +1,5 @@
 // Reading a file: its limit, its head, its body.
-use crate::body;
+use crate::rest;
 use bpg_format::MAX_FILE;
 use bpg_format::Reading;
 use bpg_format::reading_refused;
@@ -21,5 +21,5 @@ pub fn read(file: &[u8]) -> Reading
     if head.status != 0 {
         return reading_refused(head.status, head.offset.0);
     }
-    body::read(file, head)
+    rest::read(file, head)
 }
