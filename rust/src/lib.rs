@@ -49,6 +49,7 @@ mod escape;
 #[doc(hidden)]
 pub mod ffi;
 mod frames;
+mod head;
 mod header;
 mod kinds;
 mod number;
@@ -69,8 +70,9 @@ pub use escape::{escape, unescape};
 #[cfg(feature = "alloc")]
 pub use frames::frames_to_vec;
 pub use frames::{frame_count, frames};
+pub use head::{body, head, Head};
 pub use header::HevcHeader;
-pub use kinds::{tag, AlphaKind, ColorSpace, PixelFormat, MAX_ENTRIES, MAX_FILE};
+pub use kinds::{tag, AlphaKind, ColorSpace, PixelFormat, HEAD_BYTES, MAX_ENTRIES, MAX_FILE};
 pub use read::{data, entries, entry, payload, read};
 pub use record::Record;
 pub use refusal::{Reason, Refusal};

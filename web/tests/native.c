@@ -129,10 +129,22 @@ static void canonical_size(void) {
     put_status(), put_both();
 }
 
+static void head(void) {
+    a = get_list(1), b = get_list(8);
+    status = bpg_head(a.at, a.count, b.at, b.count, &first);
+    put_status(), put_list(b), put_first();
+}
+
+static void body(void) {
+    a = get_list(8), b = get_list(1), c = get_list(8);
+    status = bpg_body(a.at, a.count, b.at, b.count, c.at, c.count, &first);
+    put_status(), put_list(c), put_first();
+}
+
 /* In the order of SIGNATURES in raw.mjs. */
 static void (*const calls[])(void) = {
     read_file, entry, write_file, canonicalize, frames, frame_count, check_thumbnails, batch, unescape, escape, write_size,
-    canonical_size,
+    canonical_size, head, body,
 };
 
 int main(void) {

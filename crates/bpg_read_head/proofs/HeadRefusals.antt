@@ -47,7 +47,7 @@ head-refuses l =
     (refuses-select Numbered (f .extensionPresent) _ _ (number (s .next) (s .rest)) (refuses-ok Numbered _)) λ x.
     refuses-ok Numbered _))
 
-pub has-width : (l : List ℕ) (h : Head) → readHead l ≡ ok h → T (notZero (h .width))
+pub has-width : (l : List ℕ) (h : Head) → readHead l ≡ ok h → h .width ≢ 0
 unfolding readHead
 has-width l h e =
     unbind (readFlags l) _ e λ f e1 k1.
@@ -57,4 +57,4 @@ has-width l h e =
     unguard (notZero (v .value)) 9 (w .next) _ k4 λ _ k5.
     unbind (ue7Decode 32 (v .next) (v .rest)) _ k5 λ s e6 k6.
     unbind (readExtensionLength (f .extensionPresent) (s .next) (s .rest)) _ k6 λ x e7 k7.
-    subst (λ (g : Head). T (notZero (g .width))) (ok-injective k7) n
+    subst (λ (g : Head). g .width ≢ 0) (ok-injective k7) (λ z. subst (λ (v : ℕ). T (notZero v)) z n)

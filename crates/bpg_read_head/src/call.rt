@@ -3,8 +3,12 @@ use crate::flags::Flags;
 use crate::head;
 use crate::head::Head;
 ghost use mathlib.Core.Path.{_≡_};
-ghost use Rattle.bpg_codec.specs.Lists.{same};
-ghost use Rattle.bpg_read_head.specs.Calls.{fieldsOf, flagNumbers, sameHead, headFile};
+ghost use Prim.Native.Nat.{_≤_};
+ghost use lib.ListN.{length};
+ghost use Rattle.bpg_read_head.specs.Calls.{fieldsOf, headNumbers, sameFlags, isHead, headFile};
+
+// How many fields a head has.
+pub const HEAD_NUMBERS: usize = 12;
 
 // The fields of a head as coded. Without the extension flag the extension length is 0.
 pub struct CodedHead {
@@ -36,33 +40,57 @@ pub fn coded(head: Head) -> CodedHead
     }
 }
 
-// Whether no flag differs, a flag as 1 or 0.
-fn same_flags(a: Flags, b: Flags) -> bool
-    ensures { λ r. ⌜ r ≡ same (flagNumbers a) (flagNumbers b) ⌝ }
+// The fields as numbers, in the order of the file; a flag is 1 or 0.
+pub fn head_numbers(head: CodedHead) -> [u64; HEAD_NUMBERS]
+    ensures { λ r. ⌜ r ≡ headNumbers head ⌝ }
 {
-    let format = a.pixel_format == b.pixel_format;
-    let alpha1 = a.alpha1_flag as u8 == b.alpha1_flag as u8;
-    let depth = a.bit_depth_minus_8 == b.bit_depth_minus_8;
-    let space = a.color_space == b.color_space;
-    let extension = a.extension_present_flag as u8 == b.extension_present_flag as u8;
-    let alpha2 = a.alpha2_flag as u8 == b.alpha2_flag as u8;
-    let range = a.limited_range_flag as u8 == b.limited_range_flag as u8;
-    let animation = a.animation_flag as u8 == b.animation_flag as u8;
+    let flags = head.flags;
+    [
+        flags.pixel_format as u64,
+        flags.alpha1_flag as u64,
+        flags.bit_depth_minus_8 as u64,
+        flags.color_space as u64,
+        flags.extension_present_flag as u64,
+        flags.alpha2_flag as u64,
+        flags.limited_range_flag as u64,
+        flags.animation_flag as u64,
+        head.picture_width as u64,
+        head.picture_height as u64,
+        head.data_length as u64,
+        head.extension_length as u64,
+    ]
+}
+
+// Whether the first eight numbers are these flags'.
+fn has_flags(list: &[u64], flags: Flags) -> bool
+    requires { ⌜ 12 ≤ length (now list) ⌝ }
+    ensures { λ r. ⌜ r ≡ sameFlags (now (list .entry)) flags ⌝ }
+{
+    let format = list[0] == flags.pixel_format as u64;
+    let alpha1 = list[1] == flags.alpha1_flag as u64;
+    let depth = list[2] == flags.bit_depth_minus_8 as u64;
+    let space = list[3] == flags.color_space as u64;
+    let extension = list[4] == flags.extension_present_flag as u64;
+    let alpha2 = list[5] == flags.alpha2_flag as u64;
+    let range = list[6] == flags.limited_range_flag as u64;
+    let animation = list[7] == flags.animation_flag as u64;
     format & (alpha1 & (depth & (space & (extension & (alpha2 & (range & animation))))))
 }
 
-// Whether no field differs.
-pub fn same_head(a: CodedHead, b: CodedHead) -> bool
-    ensures { λ r. ⌜ r ≡ sameHead a b ⌝ }
+// Whether a list begins with the numbers of this head: no field differs. What stands after them is not looked at.
+pub fn is_head(list: &[u64], head: CodedHead) -> bool
+    ensures { λ r. ⌜ r ≡ isHead (now (list .entry)) head ⌝ }
 {
-    let first = a.flags;
-    let second = b.flags;
-    let width = a.picture_width == b.picture_width;
-    let height = a.picture_height == b.picture_height;
-    let data = a.data_length == b.data_length;
-    let extension = a.extension_length == b.extension_length;
-    let flags = same_flags(first, second);
-    flags & (width & (height & (data & extension)))
+    if list.len() < HEAD_NUMBERS {
+        return false;
+    }
+    let flags = head.flags;
+    let width = list[8] == head.picture_width as u64;
+    let height = list[9] == head.picture_height as u64;
+    let data = list[10] == head.data_length as u64;
+    let extension = list[11] == head.extension_length as u64;
+    let same = has_flags(list, flags);
+    same & (width & (height & (data & extension)))
 }
 
 // The head of a file. Its first 27 bytes are always enough, and so is all of a shorter file; whether the block fits the file is not judged.

@@ -23,26 +23,30 @@ use Rattle.bpg_format.specs.Records.{answerOf, readFile}
 use Rattle.bpg_format.proofs.RuleLaws.{by-tag}
 use Rattle.bpg_format.proofs.ReadingRefusals.{content-refuses}
 use Rattle.bpg_read_head.specs.declared.call.CodedHead.{CodedHead}
-use Rattle.bpg_read_head.specs.Calls.{codedHead, headReading, headFile, HeadStatus, sameHead}
-use Rattle.bpg_read_head.proofs.CallLaws.{same-itself, same-means}
+use Rattle.bpg_read_head.specs.Calls.{codedHead, headReading, headFile, HeadStatus, headNumbers, isHead}
+use Rattle.bpg_read_head.proofs.CallLaws.{own-head as own-numbers, same-means}
 use Rattle.bpg_read_head.proofs.HeadRefusals.{head-refuses}
-use Rattle.bpg_reader.specs.Calls.{readGiven, bodyFile, BodyStatus}
+use Rattle.bpg_reader.specs.Calls.{readGiven, bodyList, bodyFile, BodyStatus}
 use Rattle.bpg_reader.specs.Requirements.{headOfContent, HeadFirst, BodyRefusals}
 use Rattle.bpg_reader.proofs.HeadOf.{head-of}
 use Rattle.bpg_reader.proofs.FileLaws.{too-long}
-use Rattle.bpg_reader.proofs.GivenLaws.{given-long, given-refused, given-other, given-same, body-long}
+use Rattle.bpg_reader.proofs.GivenLaws.{given-long, given-refused, given-other, given-same, answer-long}
 
 -- ---- a file by its head
 
 -- what the head call answers, with what was read
 module _ {P : Type 0} (f : List ℕ) where
-  by-head : ((s o : ℕ) → readHead f ≡ error s o → headFile f .status ≢ 0 → P) → ((h : Head) → readHead f ≡ ok h → headFile f .status ≡ 0 → P) → P
+  pub by-head : ((s o : ℕ) → readHead f ≡ error s o → headFile f .status ≢ 0 → P) → ((h : Head) → readHead f ≡ ok h → headFile f .status ≡ 0 → P) → P
   unfolding headFile
   by-head on-error on-ok = by (readHead f) refl
     where
       by : (o : Outcome Head) → readHead f ≡ o → P
       by (ok h) e = on-ok h e (ap (λ (m : Outcome Head). headReading m .status) e)
       by (error s o) e = on-error s o e (λ z. subst HeadStatus (sym (ap (λ (m : Outcome Head). headReading m .status) e) ∙ z) (head-refuses f s o e))
+
+body-long : (given : CodedHead) (f : List ℕ) → maxFile < length f → bodyFile given f ≡ refusedReading 1 0
+unfolding bodyList
+body-long given f h = sym (answer-long (isHead (headNumbers given)) f h)
 
 content-error : (f : List ℕ) → length f ≤ maxFile → (s o : ℕ) → readHead f ≡ error s o → readContent f ≡ error s o
 unfolding readContent
@@ -53,8 +57,8 @@ unfolding readContent
 content-body f short h e = rw (le-leb (length f) maxFile short, e)
 
 body-head : (given : CodedHead) (f : List ℕ) → length f ≤ maxFile → headFile f .status ≢ 0 → bodyFile given f ≡ refusedReading (headFile f .status) (headFile f .offset)
-unfolding bodyFile headFile
-body-head given f short n = by-head f (λ s o e _. rw (given-refused (sameHead given) f short s o e, e)) (λ h e z. absurd (n z))
+unfolding bodyList headFile
+body-head given f short n = by-head f (λ s o e _. rw (given-refused (isHead (headNumbers given)) f short s o e, e)) (λ h e z. absurd (n z))
 
 head-refused : (f : List ℕ) → length f ≤ maxFile → headFile f .status ≢ 0 → readFile f ≡ refusedReading (headFile f .status) (headFile f .offset)
 unfolding readFile headFile
@@ -62,15 +66,15 @@ head-refused f short n = by-head f (λ s o e _. rw (content-error f short s o e,
 
 -- ---- the head that the head call answered
 
-own-content : (f : List ℕ) → length f ≤ maxFile → readGiven (sameHead (headFile f .head)) f ≡ readContent f
+own-content : (f : List ℕ) → length f ≤ maxFile → readGiven (isHead (headNumbers (headFile f .head))) f ≡ readContent f
 unfolding headFile
 own-content f short =
     by-head f (λ s o e _. given-refused _ f short s o e ∙ sym (content-error f short s o e))
-    (λ h e _. given-same _ f short h e (rw e (same-itself (codedHead h))) ∙ sym (content-body f short h e))
+    (λ h e _. given-same _ f short h e (rw e (own-numbers (codedHead h))) ∙ sym (content-body f short h e))
 
 own-head : (f : List ℕ) → bodyFile (headFile f .head) f ≡ readFile f
-unfolding bodyFile readFile
-own-head f = either-way (length f) maxFile (λ h. ap answerOf (own-content f h)) (λ h. sym (body-long (headFile f .head) f h) ∙ too-long f h)
+unfolding bodyList readFile
+own-head f = either-way (length f) maxFile (λ h. ap answerOf (own-content f h)) (λ h. body-long (headFile f .head) f h ∙ too-long f h)
 
 composition : (f : List ℕ)
     → readFile f
@@ -96,12 +100,12 @@ head-first = record { composition = composition; own-head = own-head; head-refus
 -- ---- any head
 
 other-head : (given : CodedHead) (f : List ℕ) → length f ≤ maxFile → headFile f .status ≡ 0 → given ≢ headFile f .head → bodyFile given f ≡ refusedReading 21 0
-unfolding bodyFile headFile
+unfolding bodyList headFile
 other-head given f short z n =
     by-head f (λ s o e k. absurd (k z))
     (λ h e _.
-    by-tag (sameHead given (codedHead h)) (λ t. absurd (n (same-means given (codedHead h) t ∙ rw e)))
-    (λ t. ap answerOf (given-other (sameHead given) f short h e t)))
+    by-tag (isHead (headNumbers given) (codedHead h)) (λ t. absurd (n (same-means given (codedHead h) t ∙ rw e)))
+    (λ t. ap answerOf (given-other (isHead (headNumbers given)) f short h e t)))
 
 abbrev Numbered : (status offset : ℕ) → Type 0
 Numbered s o = BodyStatus s
@@ -122,16 +126,16 @@ given-refuses isGiven f s o e =
     (λ long. refuses-error Numbered 1 0 tt s o (sym (given-long isGiven f long) ∙ e))
 
 number : (given : CodedHead) (f : List ℕ) → bodyFile given f .status ≢ 0 → BodyStatus (bodyFile given f .status)
-unfolding bodyFile
-number given f n = by (readGiven (sameHead given) f) refl n
+unfolding bodyList
+number given f n = by (readGiven (isHead (headNumbers given)) f) refl n
   where
-    by : (o : Outcome Content) → readGiven (sameHead given) f ≡ o → answerOf o .status ≢ 0 → BodyStatus (answerOf o .status)
+    by : (o : Outcome Content) → readGiven (isHead (headNumbers given)) f ≡ o → answerOf o .status ≢ 0 → BodyStatus (answerOf o .status)
     by (ok c) e n = absurd (n refl)
-    by (error s o) e n = given-refuses (sameHead given) f s o e
+    by (error s o) e n = given-refuses (isHead (headNumbers given)) f s o e
 
 refused : (given : CodedHead) (f : List ℕ) → bodyFile given f .status ≢ 0 → bodyFile given f ≡ refusedReading (bodyFile given f .status) (bodyFile given f .offset)
-unfolding bodyFile
-refused given f n = by (readGiven (sameHead given) f) n
+unfolding bodyList
+refused given f n = by (readGiven (isHead (headNumbers given)) f) n
   where
     by : (o : Outcome Content) → answerOf o .status ≢ 0 → answerOf o ≡ refusedReading (answerOf o .status) (answerOf o .offset)
     by (ok c) n = absurd (n refl)
@@ -140,7 +144,7 @@ refused given f n = by (readGiven (sameHead given) f) n
 pub body-refusals : BodyRefusals
 body-refusals =
     record {
-      long = λ given f h. sym (body-long given f h);
+      long = body-long;
       head = body-head;
       other-head = other-head;
       same-head = λ given f e. ap (λ (g : CodedHead). bodyFile g f) e ∙ own-head f;

@@ -13,7 +13,7 @@ use Rattle.bpg_format.specs.Content.{Content}
 use Rattle.bpg_format.specs.Read.{readHead, readBody, readingStatuses}
 use Rattle.bpg_format.specs.Records.{answerOf}
 use Rattle.bpg_read_head.specs.declared.call.CodedHead.{CodedHead}
-use Rattle.bpg_read_head.specs.Calls.{codedHead, sameHead}
+use Rattle.bpg_read_head.specs.Calls.{codedHead, headNumbers, isHead}
 
 -- "the body gives 1, the head's, 21 at 0 for a head that is not this file's, then the rest"; `isGiven`: the head is the one that was given
 unfoldable pub readGiven : (isGiven : CodedHead → Bool) → List ℕ → Outcome Content
@@ -23,8 +23,12 @@ readGiven isGiven l =
     guard (isGiven (codedHead h)) 21 0 >>= λ _.
     readBody h (drop (h .end) l)
 
-unfoldable pub bodyFile : (given : CodedHead) → List ℕ → Reading
-bodyFile given f = answerOf (readGiven (sameHead given) f)
+-- with the head's numbers in a list, and with the head
+unfoldable pub bodyList : (given f : List ℕ) → Reading
+bodyList given f = answerOf (readGiven (isHead given) f)
+
+abbrev pub bodyFile : (given : CodedHead) → List ℕ → Reading
+bodyFile given f = bodyList (headNumbers given) f
 
 -- reading's numbers and 21: no other is given
 abbrev pub bodyStatuses : List ℕ

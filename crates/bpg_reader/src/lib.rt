@@ -9,3 +9,4 @@ pub use bpg_read_head::call::HeadReading;
 pub use bpg_read_head::call::head;
 pub use file::read;
 pub use given::body;
+pub use given::read_or_body;
