@@ -38,7 +38,11 @@ fn number(file: &mut Vec<u8>, random: &mut Random) {
 }
 
 /// A list for the body call: the file's own head, or one that is not. What follows the twelve numbers is no part of it.
-pub fn given(own: &[u64; plain::HEAD], other: &[u64; plain::HEAD], random: &mut Random) -> Vec<u64> {
+pub fn given(
+    own: &[u64; plain::HEAD],
+    other: &[u64; plain::HEAD],
+    random: &mut Random,
+) -> Vec<u64> {
     let mut list = own.to_vec();
     let at = random.below(plain::HEAD);
     match random.below(8) {

@@ -64,10 +64,20 @@ pub fn body(file: &[u8], other: &[u8], random: &mut Random, statuses: &mut Statu
             continue;
         };
         let record = bpg::body(&head, file).map(|record| plain_of(&record));
-        same("the record", &case, record, plain::body(&numbers(&head), file));
+        same(
+            "the record",
+            &case,
+            record,
+            plain::body(&numbers(&head), file),
+        );
     }
     if let Ok(head) = bpg::head(file) {
-        same("the reading", &case, bpg::body(&head, file), bpg::read(file));
+        same(
+            "the reading",
+            &case,
+            bpg::body(&head, file),
+            bpg::read(file),
+        );
     }
 }
 
