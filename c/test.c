@@ -160,14 +160,96 @@ static void lists(void) {
     read_list(&all, BPG_RECORD_NUMBERS);
 }
 
+/* The longest head: three numbers of five bytes, and a fourth that is refused at its sixth byte. */
+static const uint8_t longest[BPG_HEAD_BYTES] = {0x42, 0x50, 0x47, 0xFB, 0x20, 0x08, 0x8F, 0xFF, 0xFF, 0xFF, 0x7F, 0x8F, 0xFF, 0xFF,
+                                                0xFF, 0x7F, 0x8F, 0xFF, 0xFF, 0xFF, 0x7F, 0x8F, 0xFF, 0xFF, 0xFF, 0xFF, 0x00};
+
+/* A file's head is refused so, and the struct stays as it was. */
+static void head_refused(const uint8_t *file, size_t length, uint8_t status, size_t place, int line) {
+    struct bpg_head head, before;
+    size_t offset;
+    memset(&head, 0xA5, sizeof head);
+    before = head;
+    answered(bpg_read_head(file, length, &head, &offset), status, line);
+    check(offset == place, "the offset", line);
+    check(memcmp(&head, &before, sizeof head) == 0, "the head stays", line);
+}
+
+static void heads(void) {
+    struct bpg_head head;
+    uint64_t numbers[BPG_HEAD_NUMBERS + 1];
+    size_t offset;
+    struct file cut = changed(0, 0x42), wide = changed(6, 0x00), oversize = with_block("", 0);
+    ANSWERED(bpg_read_head(C, sizeof C, &head, &offset), BPG_OK);
+    CHECK(offset == 0 && head.pixel_format == BPG_PIXEL_FORMAT_420_JPEG && head.bit_depth_minus_8 == 0 && head.color_space == 0);
+    CHECK(head.extension_present_flag == 1 && head.animation_flag == 1 && head.alpha1_flag == 0 && head.alpha2_flag == 0);
+    CHECK(head.limited_range_flag == 0 && head.picture_width == 8 && head.picture_height == 542);
+    CHECK(head.data_length == 0 && head.extension_length == 5);
+    ANSWERED(bpg_read_head(B, 10, &head, &offset), BPG_OK);
+    CHECK(head.data_length == 6 && head.extension_length == 0);
+    oversize.bytes[10] = 0x7F; /* the block is longer than the file: the body's to refuse */
+    ANSWERED(bpg_read_head(oversize.bytes, oversize.length, &head, &offset), BPG_OK);
+    CHECK(head.extension_length == 127);
+    cut.length = 9;
+    head_refused(cut.bytes, cut.length, BPG_TRUNCATED, 9, __LINE__);
+    head_refused(wide.bytes, wide.length, BPG_EMPTY_PICTURE, 6, __LINE__);
+    head_refused(longest, BPG_HEAD_BYTES, BPG_NUMBER_TOO_LARGE, 26, __LINE__);
+    head_refused(longest, BPG_HEAD_BYTES - 1, BPG_TRUNCATED, 26, __LINE__);
+    memset(numbers, 0xA5, sizeof numbers);
+    ANSWERED(bpg_head(cut.bytes, cut.length, numbers, 0, &offset), BPG_TRUNCATED);
+    ANSWERED(bpg_head(A, sizeof A, numbers, BPG_HEAD_NUMBERS - 1, &offset), BPG_BUFFER_TOO_SMALL);
+    CHECK(offset == 0 && numbers[0] == 0xA5A5A5A5A5A5A5A5u);
+    ANSWERED(bpg_head(A, sizeof A, numbers, BPG_HEAD_NUMBERS + 1, &offset), BPG_OK);
+    CHECK(numbers[8] == 8 && numbers[9] == 542 && numbers[BPG_HEAD_NUMBERS] == 0xA5A5A5A5A5A5A5A5u);
+}
+
+/* The head of A with this number, for a file. */
+static uint8_t with_number(size_t at, uint64_t number, const uint8_t *file, size_t length, size_t *offset) {
+    uint64_t head[BPG_HEAD_NUMBERS], numbers[BPG_RECORD_NUMBERS];
+    ANSWERED(bpg_head(A, sizeof A, head, BPG_HEAD_NUMBERS, offset), BPG_OK);
+    head[at] = number;
+    return bpg_body(head, BPG_HEAD_NUMBERS, file, length, numbers, BPG_RECORD_NUMBERS, offset);
+}
+
+static void bodies(void) {
+    struct bpg_head head;
+    struct bpg_record record, read = record_of(C, sizeof C);
+    uint64_t numbers[BPG_RECORD_NUMBERS];
+    size_t offset, at;
+    struct file wide = changed(6, 0x00);
+    memset(&record, 0, sizeof record);
+    ANSWERED(bpg_read_head(C, sizeof C, &head, &offset), BPG_OK);
+    ANSWERED(bpg_read_body(&head, C, sizeof C, &record, &offset), BPG_OK);
+    CHECK(offset == 0 && memcmp(&record, &read, sizeof record) == 0);
+    ANSWERED(bpg_read_body(&head, A, sizeof A, &record, &offset), BPG_OTHER_HEAD);
+    CHECK(offset == 0 && memcmp(&record, &read, sizeof record) == 0);
+    ANSWERED(bpg_read_body(&head, wide.bytes, wide.length, &record, &offset), BPG_EMPTY_PICTURE);
+    CHECK(offset == 6);
+    ANSWERED(bpg_body((const uint64_t *)&head, BPG_HEAD_NUMBERS - 1, C, sizeof C, numbers, BPG_RECORD_NUMBERS, &offset), BPG_OTHER_HEAD);
+    ANSWERED(bpg_body((const uint64_t *)&head, BPG_HEAD_NUMBERS, C, sizeof C, numbers, BPG_FIXED_NUMBERS, &offset), BPG_BUFFER_TOO_SMALL);
+    CHECK(offset == 0);
+    ANSWERED(with_number(0, 1, A, sizeof A, &offset), BPG_OK);
+    for (at = 0; at < BPG_HEAD_NUMBERS; at++) {
+        ANSWERED(with_number(at, 543, A, sizeof A, &offset), BPG_OTHER_HEAD);
+        ANSWERED(with_number(at, UINT64_MAX, A, sizeof A, &offset), BPG_OTHER_HEAD);
+    }
+    ANSWERED(with_number(8, ((uint64_t)1 << 32) + 8, A, sizeof A, &offset), BPG_OTHER_HEAD);
+    ANSWERED(with_number(0, 257, A, sizeof A, &offset), BPG_OTHER_HEAD);
+}
+
 static void limits(void) {
     static uint8_t file[BPG_MAX_FILE + 1];
     struct bpg_record record = record_of(A, sizeof A);
+    struct bpg_head head;
     size_t count, offset;
     memcpy(file, A, sizeof A);
     ANSWERED(bpg_canonical_size(file, BPG_MAX_FILE, &count, &offset), BPG_OK);
     CHECK(count == BPG_MAX_FILE);
     refused(file, BPG_MAX_FILE + 1, BPG_FILE_TOO_LONG, 0, __LINE__);
+    memset(&head, 0, sizeof head);
+    ANSWERED(bpg_read_body(&head, file, BPG_MAX_FILE + 1, &record, &offset), BPG_FILE_TOO_LONG);
+    ANSWERED(bpg_read_head(file, BPG_MAX_FILE + 1, &head, &offset), BPG_OK); /* the head has no limit */
+    ANSWERED(bpg_read_body(&head, file, BPG_MAX_FILE, &record, &offset), BPG_OK);
     record.data_length = BPG_MAX_FILE - 14;
     ANSWERED(bpg_write_record_size(&record, file, sizeof file, &count), BPG_OK);
     CHECK(count == BPG_MAX_FILE);
@@ -614,6 +696,8 @@ int main(void) {
     read_examples();
     read_refusals();
     lists();
+    heads();
+    bodies();
     limits();
     entries_to_the_limit();
     tags();

@@ -4,8 +4,8 @@
  * proved, for every input. The proof does not cover
  *   - a pointer that is null or not aligned (with a length of 0 pass any valid address), or memory that is shorter than its length says;
  *   - memory that is written and overlaps anything else that is passed: out, or a list (numbers, durations), with file, source, unit, bytes
- *     or numbers; the two lists of bpg_batch with each other, buffer or lengths; a buffer of the calls on samples with another buffer or a
- *     plane; the results (*offset, *count, *tag, *start, *length, the counts of bpg_partition) with each other or with these;
+ *     or numbers, or with head; the two lists of bpg_batch with each other, buffer or lengths; a buffer of the calls on samples with another
+ *     buffer or a plane; the results (*offset, *count, *tag, *start, *length, the counts of bpg_partition) with each other or with these;
  *   - memory that another thread changes during a call;
  *   - this header itself: its declarations, and the inline functions, which are plain C over the proved ones. c/test compiles it as C and
  *     as C++ and runs all of it.
@@ -33,6 +33,9 @@ extern "C" {
 /* The most bytes, and the most extension entries, that a file may have. */
 #define BPG_MAX_FILE 16777216
 #define BPG_MAX_ENTRIES 16
+
+/* So many bytes of a file, or all of a shorter one, are always enough for its head. */
+#define BPG_HEAD_BYTES 27
 
 /* The tags of extension entries that BPG defines; an entry may have any other. */
 enum bpg_tag {
@@ -70,7 +73,7 @@ enum bpg_alpha_kind {
     BPG_ALPHA_PREMULTIPLIED = 3 /* an alpha plane, the color premultiplied */
 };
 
-/* The refusals: name, number, words. 21 is not in use. */
+/* The refusals: name, number, words. */
 #define BPG_STATUSES(X) \
     X(BPG_OK, 0, "success") \
     X(BPG_FILE_TOO_LONG, 1, "the file has more than 16,777,216 bytes") \
@@ -93,6 +96,7 @@ enum bpg_alpha_kind {
     X(BPG_RANGE_OUTSIDE, 18, "a range of the record lies outside the source") \
     X(BPG_INCONSISTENT, 19, "an absent field of the record is not zero, its fields contradict each other, or a field cannot hold its number") \
     X(BPG_BUFFER_TOO_SMALL, 20, "the buffer or list is too small") \
+    X(BPG_OTHER_HEAD, 21, "the head is not that of this file") \
     X(BPG_BAD_NAL_UNIT, 22, "a NAL unit is too short, or its header, emulation prevention or SEI messages are wrong") \
     X(BPG_BAD_NAL_LAYER, 23, "a NAL unit has a layer above 1, layer 1 without alpha, or is a VPS or SPS") \
     X(BPG_BAD_DURATION, 24, "a frame duration is 0, is the second for its frame, or has no frame after it") \
@@ -192,6 +196,25 @@ struct bpg_record {
     struct bpg_record_entry entries[BPG_MAX_ENTRIES];     /* those after the first entry_count are no part of the record */
 };
 
+/* The head of a file, which is what a list of files shows: bytes 4 and 5, the size and two lengths, as coded. It is a list of numbers too. */
+struct bpg_head {
+    uint64_t pixel_format;           /* u8; enum bpg_pixel_format */
+    uint64_t alpha1_flag;            /* flag */
+    uint64_t bit_depth_minus_8;      /* u8 */
+    uint64_t color_space;            /* u8; enum bpg_color_space */
+    uint64_t extension_present_flag; /* flag */
+    uint64_t alpha2_flag;            /* flag */
+    uint64_t limited_range_flag;     /* flag */
+    uint64_t animation_flag;         /* flag */
+    uint64_t picture_width;          /* u32 */
+    uint64_t picture_height;         /* u32 */
+    uint64_t data_length;            /* u32; of the HEVC headers and data, or 0 for "to the end of the file" */
+    uint64_t extension_length;       /* u32; of the extension block, 0 without extension_present_flag */
+};
+
+/* How many numbers a head has. */
+#define BPG_HEAD_NUMBERS 12
+
 /* How many numbers stand before the entries, how many an entry has, and how many struct bpg_record has. */
 #define BPG_FIXED_NUMBERS 69
 #define BPG_ENTRY_NUMBERS 3
@@ -219,6 +242,10 @@ BPG_ASSERT_PLACE(coded_width, 66);
 BPG_ASSERT_PLACE(entry_count, 68);
 BPG_ASSERT_PLACE(entries, BPG_FIXED_NUMBERS);
 #undef BPG_ASSERT_PLACE
+BPG_ASSERT(size_of_head, sizeof(struct bpg_head) == 8 * BPG_HEAD_NUMBERS);
+BPG_ASSERT(place_of_head_flags, offsetof(struct bpg_head, animation_flag) == 8 * 7);
+BPG_ASSERT(place_of_head_width, offsetof(struct bpg_head, picture_width) == 8 * 8);
+BPG_ASSERT(place_of_head_data_length, offsetof(struct bpg_head, data_length) == 8 * 10);
 #undef BPG_ASSERT
 
 /* ---- The proved functions. */
@@ -227,6 +254,18 @@ BPG_ASSERT_PLACE(entries, BPG_FIXED_NUMBERS);
  * list is unchanged. A list shorter than that is refused with 20, after the file's own refusals; one of BPG_RECORD_NUMBERS is long enough for every
  * file. *offset is the offset in the file of what was refused, else 0. */
 uint8_t bpg_read(const uint8_t *file, size_t file_len, uint64_t *numbers, size_t numbers_len, size_t *offset);
+
+/* Reads the head of a file, up to the length of the extension block, of which the first BPG_HEAD_BYTES bytes, or all of a shorter file, are always
+ * enough: with them the answer is that for the whole file. Success: status 0, and the first BPG_HEAD_NUMBERS numbers are the head's; the rest of
+ * the list is unchanged. Refusals are those of the head's items, 2 to 9, with their *offset, then 20 for a shorter list. So 1 is never given, and
+ * whether the extension block fits the file is not judged. */
+uint8_t bpg_head(const uint8_t *file, size_t file_len, uint64_t *numbers, size_t numbers_len, size_t *offset);
+
+/* Reads a file whose head the caller has: the answer is that of bpg_read. The head is read again over this file, so that nobody is trusted: after 1
+ * and the head's own refusals, 21 at 0 if any of the BPG_HEAD_NUMBERS numbers of head is not this file's, a list shorter than that included; then
+ * the other refusals of bpg_read, and 20 last. */
+uint8_t bpg_body(const uint64_t *head, size_t head_len, const uint8_t *file, size_t file_len, uint64_t *numbers, size_t numbers_len,
+                 size_t *offset);
 
 /* Tag and payload range of entry k, from 0. False and zeros if the file is refused or has no entry k. */
 bool bpg_entry(const uint8_t *file, size_t file_len, size_t k, uint32_t *tag, uint32_t *start, uint32_t *length);
@@ -310,6 +349,17 @@ uint8_t bpg_limited_luma(const uint16_t *y, size_t y_len, uint16_t *out, size_t 
 /* bpg_read into a record, which is never too short. Entries that are not in use keep what they had. */
 static inline uint8_t bpg_read_record(const uint8_t *file, size_t file_len, struct bpg_record *record, size_t *offset) {
     return bpg_read(file, file_len, (uint64_t *)record, BPG_RECORD_NUMBERS, offset);
+}
+
+/* bpg_head into a head, which is never too short. */
+static inline uint8_t bpg_read_head(const uint8_t *file, size_t file_len, struct bpg_head *head, size_t *offset) {
+    return bpg_head(file, file_len, (uint64_t *)head, BPG_HEAD_NUMBERS, offset);
+}
+
+/* bpg_body with a head, into a record. */
+static inline uint8_t bpg_read_body(const struct bpg_head *head, const uint8_t *file, size_t file_len, struct bpg_record *record,
+                                    size_t *offset) {
+    return bpg_body((const uint64_t *)head, BPG_HEAD_NUMBERS, file, file_len, (uint64_t *)record, BPG_RECORD_NUMBERS, offset);
 }
 
 /* bpg_write of a record. */

@@ -66,6 +66,24 @@ export interface BpgRecord {
   entries: Entry[];
 }
 
+/** The head of a file: its format, its size and two lengths, as coded. */
+export interface Head {
+  pixelFormat: number;
+  alpha1Flag: boolean;
+  bitDepthMinus8: number;
+  colorSpace: number;
+  extensionPresentFlag: boolean;
+  alpha2Flag: boolean;
+  limitedRangeFlag: boolean;
+  animationFlag: boolean;
+  pictureWidth: number;
+  pictureHeight: number;
+  /** Of the HEVC headers and data; 0 where they go up to the end of the file. */
+  dataLength: number;
+  /** Of the extension block; 0 without one. */
+  extensionLength: number;
+}
+
 /** A record as a file gives it, with its size as HEVC codes it, which may be 2^32. */
 export interface Reading extends BpgRecord {
   codedWidth: number;
@@ -116,6 +134,9 @@ export const MAX_ENTRIES: number;
 /** Planes of 16-bit samples, or buffers for them. */
 export type Planes<N extends 3 | 4> = N extends 3 ? [Uint16Array, Uint16Array, Uint16Array] : [Uint16Array, Uint16Array, Uint16Array, Uint16Array];
 
+/** So many bytes of a file, or all of a shorter one, are always enough for its head: 27. */
+export const HEAD_BYTES: number;
+
 /** That part of the file, as a subarray of the caller's own array. */
 export function part(file: Uint8Array, range: ByteRange): Uint8Array;
 
@@ -129,6 +150,12 @@ export class Bpg {
 
   /** The record of a file. */
   read(file: Uint8Array): Reading;
+
+  /** The head of a file, up to the length of its extension block; its first HEAD_BYTES (27) bytes, or all of a shorter file, are always enough. */
+  head(file: Uint8Array): Head;
+
+  /** The record of a file that has this head, as `read` gives it; another file's head is refused with 21. */
+  body(head: Head, file: Uint8Array): Reading;
 
   /** The entries of a file in their order, each with its payload as a subarray; none for a refused file. */
   entries(file: Uint8Array): (Entry & { payload: Uint8Array })[];

@@ -9,7 +9,7 @@
 // a call is lent one to write into. A refused call leaves it as it was.
 
 import { behind, Memory } from './memory.mjs';
-import { dataOf, entriesOf, MAX_NUMBERS, put, recordOf } from './record.mjs';
+import { dataOf, entriesOf, HEAD_NUMBERS, headOf, MAX_NUMBERS, put, putHead, recordOf } from './record.mjs';
 import { BpgRefusal } from './refusal.mjs';
 
 export { MAX_ENTRIES } from './record.mjs';
@@ -20,6 +20,9 @@ export const Tag = Object.freeze({ EXIF: 1, ICC_PROFILE: 2, XMP: 3, THUMBNAIL: 4
 
 /** The most bytes that a file may have. */
 export const MAX_FILE = 16777216;
+
+/** So many bytes of a file, or all of a shorter one, are always enough for its head. */
+export const HEAD_BYTES = 27;
 
 /** That part of the file, as a subarray of the caller's own array. `range` is an entry of a record, or its data. */
 export const part = (file, range) => file.subarray(range.start, range.start + range.length);
@@ -104,6 +107,30 @@ export class Bpg {
   read(file) {
     this.#accepted(this.#readList(file), this.#memory.result(0));
     return recordOf(this.#memory.words, this.#memory.list / 4);
+  }
+
+  /** The head of a file, up to the length of its extension block; its first HEAD_BYTES (27) bytes, or all of a shorter file, are always enough. */
+  head(file) {
+    checkBytes(file, 'the file');
+    // What stands after them changes no answer.
+    const bytes = file.subarray(0, HEAD_BYTES);
+    this.#put(bytes);
+    const { room, list, results } = this.#memory;
+    const status = this.#calls.bpg_head(room, BigInt(bytes.length), list, BigInt(HEAD_NUMBERS), results);
+    this.#accepted(status & 0xff, this.#memory.result(0));
+    return headOf(this.#memory.words, list / 4);
+  }
+
+  /** The record of a file that has this head; another file's head is refused with 21. */
+  body(head, file) {
+    const bytes = fileBytes(file);
+    const at = this.#put(bytes, 8 * HEAD_NUMBERS);
+    const memory = this.#memory;
+    putHead(head, memory.words, at / 4);
+    const { room, list, results } = memory;
+    const status = this.#calls.bpg_body(at, BigInt(HEAD_NUMBERS), room, BigInt(bytes.length), list, LIST_LENGTH, results);
+    this.#accepted(status & 0xff, memory.result(0));
+    return recordOf(memory.words, list / 4);
   }
 
   /** The entries of a file in their order, each with its payload as a subarray; none for a refused file. */

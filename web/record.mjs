@@ -48,6 +48,29 @@ export function recordOf(words, at) {
   };
 }
 
+/** How many numbers the list of a head has. */
+export const HEAD_NUMBERS = 12;
+
+/** The head of its list. Fields stand in the order of the list: `putHead` goes by it. */
+export function headOf(words, at) {
+  const number = (k) => words[at + 2 * k];
+  const flag = (k) => words[at + 2 * k] !== 0;
+  return {
+    pixelFormat: number(0),
+    alpha1Flag: flag(1),
+    bitDepthMinus8: number(2),
+    colorSpace: number(3),
+    extensionPresentFlag: flag(4),
+    alpha2Flag: flag(5),
+    limitedRangeFlag: flag(6),
+    animationFlag: flag(7),
+    pictureWidth: number(8),
+    pictureHeight: number(9),
+    dataLength: number(10),
+    extensionLength: number(11),
+  };
+}
+
 /** The data's range alone, of the list of a reading. */
 export function dataOf(words, at) {
   return { start: words[at + 2 * DATA], length: words[at + 2 * DATA + 2] };
@@ -98,6 +121,7 @@ function headerOf(words, at) {
 // The names of the fields in the order of the list, taken from the objects above.
 const NOTHING = new Uint32Array(2 * ENTRIES);
 const HEADER_FIELDS = Object.keys(headerOf(NOTHING, 0));
+const HEAD_FIELDS = Object.keys(headOf(NOTHING, 0));
 const FIRST_FIELDS = Object.keys(recordOf(NOTHING, 0)).slice(0, ALPHA_HEADER);
 const RANGE_FIELDS = ['start', 'length'];
 const ENTRY_FIELDS = ['tag', 'start', 'length'];
@@ -118,6 +142,11 @@ export function put(record, words, at) {
     putFields(entries[k], ENTRY_FIELDS, words, at + 2 * (ENTRIES + k * ENTRY_NUMBERS), `record.entries[${k}]`);
   }
   return ENTRIES + used * ENTRY_NUMBERS;
+}
+
+/** Puts the list of a head at `at`. */
+export function putHead(head, words, at) {
+  putFields(head, HEAD_FIELDS, words, at, 'head');
 }
 
 function putFields(object, names, words, at, what) {

@@ -47,6 +47,7 @@ fn main() {
     for entries in [0, 16] {
         partitioning(entries);
     }
+    reading_heads();
     let batched = batch();
     for (name, size) in SIZES {
         writing_list(name, size);
@@ -166,6 +167,39 @@ fn partitioning(entries: usize) {
     );
     let name = format!("{entries} entries, alpha");
     row("bpg_partition", &name, &race, [0, 1]);
+}
+
+/// The head alone, from a file's first bytes; and reading on from it, against reading.
+fn reading_heads() {
+    let file = &sample::file(3, true, 1 << 10)[..];
+    let first = &file[..bpg::HEAD_BYTES];
+    let race = Race::run(
+        &mut [1; plain::HEAD],
+        [
+            &mut |list| {
+                black_box(bpg::ffi::head(black_box(first), black_box(list)));
+            },
+            &mut |list| {
+                black_box(plain::head_list(black_box(first), black_box(list)))
+                    .expect("the head is valid");
+            },
+        ],
+    );
+    row("bpg_head", "27 bytes", &race, [0, 1]);
+    let head = plain::head(file).expect("the head is valid");
+    let race = Race::run(
+        &mut [1; plain::NUMBERS],
+        [
+            &mut |list| {
+                black_box(bpg::ffi::body(&head, black_box(file), black_box(list)));
+            },
+            &mut |list| {
+                black_box(plain::body_list(&head, black_box(file), black_box(list)))
+                    .expect("the file is valid");
+            },
+        ],
+    );
+    row("bpg_body", "3 entries, alpha", &race, [0, 1]);
 }
 
 /// The files of an hour, against as many calls for one file.

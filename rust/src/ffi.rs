@@ -9,14 +9,31 @@
 
 use core::mem::MaybeUninit;
 
+use crate::head::HEAD_NUMBERS;
 use crate::record::{ENTRY_NUMBERS, FIXED_NUMBERS, RECORD_NUMBERS};
-use crate::{Entry, Record, Refusal};
+use crate::{Entry, Head, Record, Refusal};
 
 // Results start with values that are no likely answer, so that the comparison sees one that was not set.
 const UNSET: usize = usize::MAX;
 
 extern "C" {
     fn bpg_read(
+        file: *const u8,
+        file_len: usize,
+        numbers: *mut u64,
+        numbers_len: usize,
+        offset: *mut usize,
+    ) -> u8;
+    fn bpg_head(
+        file: *const u8,
+        file_len: usize,
+        numbers: *mut u64,
+        numbers_len: usize,
+        offset: *mut usize,
+    ) -> u8;
+    fn bpg_body(
+        head: *const u64,
+        head_len: usize,
         file: *const u8,
         file_len: usize,
         numbers: *mut u64,
@@ -159,6 +176,82 @@ fn read_into(file: &[u8], record: &mut MaybeUninit<Record>) -> Result<(), Refusa
         )
     };
     crate::answer(status, offset)
+}
+
+/// Status and offset; on success the head's numbers stand at the start of `numbers`.
+pub fn head(file: &[u8], numbers: &mut [u64]) -> (u8, usize) {
+    let mut offset = UNSET;
+    // SAFETY: pointers and lengths of slices and of locals; see above.
+    let status = unsafe {
+        bpg_head(
+            file.as_ptr(),
+            file.len(),
+            numbers.as_mut_ptr(),
+            numbers.len(),
+            &mut offset,
+        )
+    };
+    (status, offset)
+}
+
+/// Status and offset; on success the record's numbers stand at the start of `numbers`.
+pub fn body(head: &[u64], file: &[u8], numbers: &mut [u64]) -> (u8, usize) {
+    let mut offset = UNSET;
+    // SAFETY: pointers and lengths of slices and of locals; see above.
+    let status = unsafe {
+        bpg_body(
+            head.as_ptr(),
+            head.len(),
+            file.as_ptr(),
+            file.len(),
+            numbers.as_mut_ptr(),
+            numbers.len(),
+            &mut offset,
+        )
+    };
+    (status, offset)
+}
+
+/// The head of a file.
+#[inline]
+pub(crate) fn read_head(file: &[u8]) -> Result<Head, Refusal> {
+    let mut head = MaybeUninit::<Head>::uninit();
+    let mut offset = UNSET;
+    // SAFETY: a head is HEAD_NUMBERS numbers of 64 bits, which the library writes and does not read.
+    let status = unsafe {
+        bpg_head(
+            file.as_ptr(),
+            file.len(),
+            head.as_mut_ptr().cast(),
+            HEAD_NUMBERS,
+            &mut offset,
+        )
+    };
+    crate::answer(status, offset)?;
+    // SAFETY: the head was read, so that all of it is initialized.
+    Ok(unsafe { head.assume_init() })
+}
+
+/// The record of a file that has this head.
+#[inline]
+pub(crate) fn read_body(head: &Head, file: &[u8]) -> Result<Record, Refusal> {
+    let mut record = MaybeUninit::<Record>::uninit();
+    let mut offset = UNSET;
+    // SAFETY: a head is HEAD_NUMBERS numbers of 64 bits; a record is RECORD_NUMBERS, which the library writes and does not read.
+    let status = unsafe {
+        bpg_body(
+            core::ptr::from_ref(head).cast(),
+            HEAD_NUMBERS,
+            file.as_ptr(),
+            file.len(),
+            record.as_mut_ptr().cast(),
+            RECORD_NUMBERS,
+            &mut offset,
+        )
+    };
+    crate::answer(status, offset)?;
+    // SAFETY: the file was read, so that the record is initialized.
+    Ok(unsafe { record.assume_init() })
 }
 
 /// A record whose every number is zero.

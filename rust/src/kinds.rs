@@ -6,6 +6,9 @@ pub const MAX_FILE: usize = 16_777_216;
 /// The most extension entries that a file may have.
 pub const MAX_ENTRIES: usize = 16;
 
+/// So many bytes of a file, or all of a shorter one, are always enough for [`head`](crate::head()).
+pub const HEAD_BYTES: usize = 27;
+
 /// The tags of extension entries that BPG defines; an entry may have any other.
 pub mod tag {
     /// EXIF data.

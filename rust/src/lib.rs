@@ -51,12 +51,13 @@ mod escape;
 #[doc(hidden)]
 pub mod ffi;
 mod frames;
+mod head;
 mod header;
 mod kinds;
 mod number;
+mod partition;
 #[cfg(feature = "player")]
 pub mod player;
-mod partition;
 mod read;
 mod record;
 mod refusal;
@@ -74,8 +75,9 @@ pub use escape::{escape, unescape};
 #[cfg(feature = "alloc")]
 pub use frames::frames_to_vec;
 pub use frames::{frame_count, frames};
+pub use head::{body, head, Head};
 pub use header::HevcHeader;
-pub use kinds::{tag, AlphaKind, ColorSpace, PixelFormat, MAX_ENTRIES, MAX_FILE};
+pub use kinds::{tag, AlphaKind, ColorSpace, PixelFormat, HEAD_BYTES, MAX_ENTRIES, MAX_FILE};
 pub use partition::{partition, Partition};
 pub use read::{data, entries, entry, payload, read};
 pub use record::Record;

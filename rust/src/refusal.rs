@@ -54,6 +54,7 @@ reasons! {
     18 RangeOutside "a range of the record lies outside the source",
     19 Inconsistent "an absent field of the record is not zero, its fields contradict each other, or a field cannot hold its number",
     20 BufferTooSmall "the buffer or list is too small",
+    21 OtherHead "the head is not that of this file",
     22 BadNalUnit "a NAL unit is too short, or its header, emulation prevention or SEI messages are wrong",
     23 BadNalLayer "a NAL unit has a layer above 1, layer 1 without alpha, or is a VPS or SPS",
     24 BadDuration "a frame duration is 0, is the second for its frame, or has no frame after it",

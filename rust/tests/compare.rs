@@ -3,8 +3,8 @@
 //!
 //! `BPG_SEED` gives another run; `BPG_FILES`, `BPG_RECORDS`, `BPG_FRAMED` (files whose data is made of units,
 //! for the calls on frames), `BPG_SLICES` (for emulation prevention), `BPG_NESTED` (files with thumbnails),
-//! `BPG_BATCHES`, `BPG_PARTED` (files for their partition), `BPG_SAMPLES` and `BPG_LOOPS` another number of cases. A difference
-//! fails the test and prints the case and both answers.
+//! `BPG_BATCHES`, `BPG_PARTED` (files for their partition), `BPG_SAMPLES`, `BPG_LOOPS` and `BPG_HEADS` another number of cases.
+//! A difference fails the test and prints the case and both answers.
 
 mod cases;
 mod held;
@@ -13,10 +13,10 @@ mod plain;
 use std::env;
 use std::thread;
 
-use cases::{batches, large, nested, records, samples, Random};
+use cases::{batches, heads, large, nested, records, samples, Random};
 use held::{
-    Buffers, Cases, Statuses, Table, BATCH_STATUSES, PARTITION_STATUSES, SAMPLE_STATUSES,
-    THUMBNAIL_STATUSES,
+    Buffers, Cases, Statuses, Table, BATCH_STATUSES, BODY_STATUSES, HEAD_STATUSES,
+    PARTITION_STATUSES, SAMPLE_STATUSES, THUMBNAIL_STATUSES,
 };
 
 const THREADS: u64 = 2;
@@ -107,6 +107,32 @@ fn the_partition_agrees_with_plain_rust() {
     let rare = statuses.rare(100);
     assert!(rare.is_empty(), "met fewer than 100 times: {rare:?}");
     assert!(edited >= files / 20, "few files with a payload to edit");
+}
+
+#[test]
+fn the_head_and_the_body_agree_with_plain_rust() {
+    let seed = setting("BPG_SEED", 20_150_425);
+    let files = setting("BPG_HEADS", 300_000);
+    let mut random = Random::new(seed.wrapping_add(THREADS + 4));
+    let mut by_head = Statuses::new("head", HEAD_STATUSES);
+    let mut by_body = Statuses::new("body", BODY_STATUSES);
+    let mut other = cases::file(&mut random);
+    for _ in 0..files {
+        let file = heads::file(&mut random);
+        held::head(&file, &mut random, &mut by_head);
+        held::body(&file, &other, &mut random, &mut by_body);
+        other = file;
+    }
+    // The head of a file that is too long is read, and its body is refused for its length, whatever head is given.
+    let long = large::long_buffer(1);
+    held::head(&long, &mut random, &mut by_head);
+    for file in [&long[..], &long[..plain::MAX_FILE]] {
+        held::body(file, &other, &mut random, &mut by_body);
+        held::body(file, &long, &mut random, &mut by_body);
+    }
+    println!("{by_head}\n{by_body}\n{files} files, and some large");
+    let rare = [by_head.rare(100), by_body.rare(100)].concat();
+    assert!(rare.is_empty(), "met fewer than 100 times: {rare:?}");
 }
 
 #[test]

@@ -216,10 +216,22 @@ static void partition(void) {
     put_status(), put(results, sizeof results);
 }
 
+static void head(void) {
+    a = get_list(1), b = get_list(8);
+    status = bpg_head(a.at, a.count, b.at, b.count, &first);
+    put_status(), put_list(b), put_first();
+}
+
+static void body(void) {
+    a = get_list(8), b = get_list(1), c = get_list(8);
+    status = bpg_body(a.at, a.count, b.at, b.count, c.at, c.count, &first);
+    put_status(), put_list(c), put_first();
+}
+
 /* In the order of SIGNATURES in raw.mjs. */
 static void (*const calls[])(void) = {
     read_file, entry, write_file, canonicalize, frames, frame_count, check_thumbnails, batch, unescape, escape, write_size,
-    canonical_size, unpremultiply, cmyk, default_from_white, ycgco, limited_luma, player_frame, player_tick_count, player_time, partition,
+    canonical_size, unpremultiply, cmyk, default_from_white, ycgco, limited_luma, player_frame, player_tick_count, player_time, partition, head, body,
 };
 
 int main(void) {

@@ -107,6 +107,9 @@ function callsOn(bytes) {
   }
   add('player_frame_at_time', bytes, random.pick([0, random.below(5000), 2 ** 32 - 1]));
   cases.push(...loopCalls());
+  add('bpg_head', random.once(2) ? bytes.slice(0, 27) : bytes, filled(BigUint64Array, random.once(20) ? random.below(13) : 13, 0xa5a5a5a5a5a5a5a5n));
+  const head = raw.call('bpg_head', bytes, filled(BigUint64Array, 12, 0n)).lists[0];
+  add('bpg_body', random.once(3) ? spoiltNumbers(head) : head, bytes, filled(BigUint64Array, random.once(20) ? random.below(130) : 130, 0xa5a5a5a5a5a5a5a5n));
   const slice = bytes.slice(random.below(bytes.length + 1));
   add(random.pick(['bpg_unescape', 'bpg_escape']), slice, filled(Uint8Array, near(slice.length + 4), 0xa5));
   return cases;
@@ -149,6 +152,8 @@ for (const length of [16777216, 16777217]) {
   large.set(small);
   compare(['bpg_frames', 'bpg_canonicalize'].map((name) => ({ name, given: [large, new (name === 'bpg_frames' ? Uint16Array : Uint8Array)(length)] })));
   compare([{ name: 'bpg_read', given: [large, new BigUint64Array(130)] }]);
+  compare([{ name: 'bpg_head', given: [large, new BigUint64Array(12)] }]);
+  compare([{ name: 'bpg_body', given: [new BigUint64Array(12), large, new BigUint64Array(130)] }]);
   files++;
 }
 

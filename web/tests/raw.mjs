@@ -33,6 +33,8 @@ export const SIGNATURES = {
   player_ticks: [small, small, small, result(8)],
   player_frame_at_time: [list(1), small, result(4), result(1), result(8)],
   bpg_partition: [list(1), ...Array(6).fill(result(8))],
+  bpg_head: [list(1), outList(8), result(8)],
+  bpg_body: [list(8), list(1), outList(8), result(8)],
 };
 
 /** A number of 8, 4 or 1 bytes in the module's memory. */

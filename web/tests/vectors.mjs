@@ -136,6 +136,27 @@ function batch(line) {
   same('batch', answer(() => bpg.batch(bytes(buffer), numbers(lengths)), show), status === '0' ? wanted : `${status} at 0`);
 }
 
+// The heads of the vectors name some fields otherwise; their order is that of the list.
+function headFrom(fields) {
+  const names = ['pixelFormat', 'alpha1Flag', 'bitDepthMinus8', 'colorSpace', 'extensionPresentFlag', 'alpha2Flag', 'limitedRangeFlag'];
+  names.push('animationFlag', 'pictureWidth', 'pictureHeight', 'dataLength', 'extensionLength');
+  return Object.fromEntries(Object.values(fields).map((value, k) => [names[k], value]));
+}
+
+function head(line) {
+  const { file, head: [status, offset, fields], body_with_own_head: own, other_head: other, body_with_other_head: others } = JSON.parse(line);
+  const wanted = status === 0 ? Object.values(fields).join() : `${status} at ${offset}`;
+  for (const part of [bytes(file), bytes(file).subarray(0, 27)]) {
+    same('head', answer(() => bpg.head(part), (found) => Object.values(found).map(Number).join()), wanted);
+    const got = raw.call('bpg_head', part, new BigUint64Array(13).fill(99n));
+    same('head', `${got.status} at ${got.results} ${got.lists[0].join()}`, `${status} at ${offset} ${[...(status === 0 ? Object.values(fields) : Array(12).fill(99)), 99].join()}`);
+  }
+  const body = (given) => answer(() => bpg.body(headFrom(given), bytes(file)), () => '0 at 0');
+  if (status === 0) same('body', body(fields), own.join(' at '));
+  if (status === 0 && own[0] === 0) same('body', JSON.stringify(bpg.body(headFrom(fields), bytes(file))), JSON.stringify(bpg.read(bytes(file))));
+  if (other) same('body', body(other), others.join(' at '));
+}
+
 function nal(line) {
   const [, unit, keeps, undone, redone] = line.match(/^(\S+) keeps ([01]) undone (\S+) redone (\S+)$/);
   same('unescape', answer(() => bpg.unescape(bytes(unit)), hex), keeps === '1' ? undone.replace('-', '') : '22 at 0');
@@ -194,6 +215,7 @@ lines('nal.txt').forEach(nal);
 lines('samples.txt').forEach(samples);
 lines('player.txt').forEach(player);
 lines('parts.txt').forEach(parts);
+lines('head.jsonl').forEach(head);
 const total = Object.values(counts).reduce((sum, count) => sum + count, 0);
 console.log(`vectors: ${total} answers (${Object.entries(counts).map(([name, count]) => `${name} ${count}`).join(', ')}), ${bad} differ`);
 process.exit(bad === 0 ? 0 : 1);

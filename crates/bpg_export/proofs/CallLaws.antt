@@ -18,18 +18,31 @@ use Rattle.bpg_export_list.specs.Calls.{listed}
 use Rattle.bpg_parts.specs.declared.parts.EntryAt.{EntryAt}
 use Rattle.bpg_parts.specs.Entries.{entryAnswer}
 use Rattle.bpg_parts.proofs.PartLaws.{entry-in}
-use Rattle.bpg_export.specs.Calls.{readAnswer, readNumbers}
+use Rattle.bpg_export.specs.Calls.{listedAnswer, listedNumbers, readAnswer, readNumbers, bodyAnswer, bodyNumbers, eitherReading}
 
 -- ---- reading
 
-pub read-listed : (file numbers : List ℕ) (reading : Reading) (w : Written) (after : List ℕ) → reading ≡ readFile file
-    → w ≡ writtenAnswer (listed (length numbers) reading) → after ≡ writtenBuffer (listed (length numbers) reading) numbers
-    → (w .status ≡ readAnswer file numbers .status) × ((w .offset ≡ readAnswer file numbers .offset) × (after ≡ readNumbers file numbers))
-unfolding readAnswer readNumbers
-read-listed file numbers reading w after e a b =
+-- what the list of a reading answers, part by part
+abbrev Listed : Reading → (numbers : List ℕ) → (status offset : ℕ) (after : List ℕ) → Type 0
+Listed r numbers s o after = (s ≡ listedAnswer r numbers .status) × ((o ≡ listedAnswer r numbers .offset) × (after ≡ listedNumbers r numbers))
+
+pub listed-parts : (numbers : List ℕ) (r q : Reading) (w : Written) (after : List ℕ) → r ≡ q → w ≡ writtenAnswer (listed (length numbers) r)
+    → after ≡ writtenBuffer (listed (length numbers) r) numbers → Listed q numbers (w .status) (w .offset) after
+listed-parts numbers r q w after e a b =
     let o = ap (listed (length numbers)) e in
     let answer = a ∙ ap writtenAnswer o in
     (ap (λ (x : Written). x .status) answer, (ap (λ (x : Written). x .offset) answer, b ∙ ap (λ (x : Outcome (List ℕ)). writtenBuffer x numbers) o))
+
+module _ (head file numbers : List ℕ) {s o : ℕ} {after : List ℕ} where
+  pub none-given : Listed (eitherReading false head file) numbers s o after
+      → (s ≡ readAnswer file numbers .status) × ((o ≡ readAnswer file numbers .offset) × (after ≡ readNumbers file numbers))
+  unfolding select readAnswer readNumbers
+  none-given h = h
+
+  pub one-given : Listed (eitherReading true head file) numbers s o after
+      → (s ≡ bodyAnswer head file numbers .status) × ((o ≡ bodyAnswer head file numbers .offset) × (after ≡ bodyNumbers head file numbers))
+  unfolding select bodyAnswer bodyNumbers
+  one-given h = h
 
 -- ---- an entry by its index
 

@@ -1,6 +1,7 @@
 // The library for C and Rust: numbers and slices alone. include/bpg.h declares these functions for C.
 mod batch;
 mod frames;
+mod heads;
 mod partition;
 mod samples;
 mod sizes;
@@ -11,6 +12,8 @@ pub use frames::bpg_escape;
 pub use frames::bpg_frame_count;
 pub use frames::bpg_frames;
 pub use frames::bpg_unescape;
+pub use heads::bpg_body;
+pub use heads::bpg_head;
 pub use sizes::bpg_canonical_size;
 pub use sizes::bpg_write_size;
 pub use thumbnails::bpg_check_thumbnails;
@@ -29,10 +32,8 @@ pub extern "C" fn bpg_read(file: &[u8], numbers: &mut [u64], offset: &mut usize)
     ensures { λ _. ⌜ now (offset .exit) ≡ readAnswer (now (file .entry)) (now (numbers .entry)) .offset ⌝ }
     ensures { λ _. ⌜ now (numbers .exit) ≡ readNumbers (now (file .entry)) (now (numbers .entry)) ⌝ }
 {
-    let reading = bpg_reader::read(file);
-    let listed = bpg_export_list::write(reading, numbers);
-    *offset = listed.offset;
-    listed.status
+    let none = [0u64; 1];
+    heads::read_list(file, &none, false, numbers, offset)
 }
 
 // Tag and range of entry k, from 0; false and zeros where there is none. A refused file has no entry.

@@ -7,4 +7,5 @@ pub use list::COUNT;
 pub use list::DATA;
 pub use list::FIXED;
 pub use list::LOOP;
+pub use list::put;
 pub use list::write;

@@ -34,7 +34,7 @@ pub const COUNT: usize = CODED + 2;
 pub const FIXED: usize = COUNT + 1;
 
 // Writes `part` at `at`; where it does not fit, nothing.
-fn put(out: &mut [u64], at: usize, part: &[u64])
+pub fn put(out: &mut [u64], at: usize, part: &[u64])
     ensures { λ _. ⌜ now (out .exit) ≡ written (now (out .entry)) at (now (part .entry)) ⌝ }
 {
     let size = part.len();

@@ -1,18 +1,19 @@
--- What is known of a head that was read: that it ends within its file, and that its bit depth is one of document 01's.
+-- What is known of a head that was read: that it ends within its file, and that each field fits.
 use mathlib.Core.Path.{_≡_, sym, ap, subst}
 use mathlib.Core.Bool.{Bool, true, false}
 use mathlib.Core.List.{List}
-use Prim.Native.Nat.{ℕ, _-_, _/_, _%_, _≤_}
+use Prim.Native.Nat.{ℕ, _-_, _/_, _%_, _^_, _≤_, _<_}
 use native.Mathlib.Omega.{arith}
 use lib.Dec.{leb, leb→le}
 use lib.ListN.{length, take, drop, getD, length-drop}
 use Rattle.bpg_codec.specs.Select.{select}
 use Rattle.bpg_codec.specs.Outcome.{ok, Decoded}
 use Rattle.bpg_codec.specs.Lists.{same}
+use Rattle.bpg_codec.proofs.Select.{and-left}
 use Rattle.bpg_codec.proofs.Outcome.{ok-injective, unbind, unguard}
 use Rattle.bpg_codec.proofs.Positions.{Advanced, advanced-then}
 use Rattle.bpg_ue7.specs.Ue7.{ue7Decode, notZero}
-use Rattle.bpg_ue7.proofs.Advances.{ue7-advances}
+use Rattle.bpg_ue7.proofs.Advances.{ue7-advances, ue7-limit}
 use Rattle.bpg_format.specs.Content.{Flags}
 use Rattle.bpg_format.specs.Syntax.{magic}
 use Rattle.bpg_format.specs.Tests.{colorSpaceAllowed}
@@ -46,16 +47,18 @@ six-bytes : (l : List ℕ) (f : Flags) → readFlags l ≡ ok f → 6 ≤ length
 unfolding readFlags
 six-bytes l f e = unguard (leb 6 (length l)) 2 0 _ e λ t _. leb→le 6 (length l) t
 
-depth-small : (l : List ℕ) (f : Flags) → readFlags l ≡ ok f → f .bitDepthMinus8 ≤ 6
+flag-bounds : (l : List ℕ) (f : Flags) → readFlags l ≡ ok f → (f .pixelFormat ≤ 5) × (f .bitDepthMinus8 ≤ 6) × (f .colorSpace ≤ 4)
 unfolding readFlags
-depth-small l f e =
+flag-bounds l f e =
     let b4 = getD l 4 0 in
+    let b5 = getD l 5 0 in
     unguard (leb 6 (length l)) 2 0 _ e λ _ e1.
     unguard (same magic (take 4 l)) 3 0 _ e1 λ _ e2.
-    unguard (leb (b4 / 32) 5) 4 4 _ e2 λ _ e3.
+    unguard (leb (b4 / 32) 5) 4 4 _ e2 λ s e3.
     unguard (leb (b4 % 16) 6) 5 4 _ e3 λ t e4.
-    unguard (colorSpaceAllowed (flagsOf b4 (getD l 5 0))) 6 5 _ e4 λ _ e5.
-    subst (λ (g : Flags). g .bitDepthMinus8 ≤ 6) (ok-injective e5) (leb→le (b4 % 16) 6 t)
+    unguard (colorSpaceAllowed (flagsOf b4 b5)) 6 5 _ e4 λ u e5.
+    subst (λ (g : Flags). (g .pixelFormat ≤ 5) × (g .bitDepthMinus8 ≤ 6) × (g .colorSpace ≤ 4)) (ok-injective e5)
+    (leb→le (b4 / 32) 5 s, leb→le (b4 % 16) 6 t, leb→le (b5 / 16) 4 (and-left (leb (b5 / 16) 4) _ u))
 
 -- the parts of a head that was read: each number, with the offset after it and what is left there
 module _ (P : Head → Type 0) (l : List ℕ) where
@@ -82,5 +85,35 @@ head-facts l h e =
     let b = advanced-then (advanced (v .next) (v .rest) s e4) (optional-advanced (s .next) (s .rest) x (f .extensionPresent) e5) in
     record {
       end-inside = omega (arith, six-bytes l f e1, advanced-then a b .inside, length-drop 6 l);
-      depth-limit = depth-small l f e1;
+      depth-limit = flag-bounds l f e1 .1;
+    }
+
+-- ---- each field fits
+
+pub record HeadBounds (h : Head) : Type 0 where
+  pub format : h .flags .pixelFormat ≤ 5
+  pub depth : h .flags .bitDepthMinus8 ≤ 6
+  pub space : h .flags .colorSpace ≤ 4
+  pub width : h .width < 2 ^ 32
+  pub height : h .height < 2 ^ 32
+  pub data-length : h .dataLength < 2 ^ 32
+  pub extension-length : h .extensionLength < 2 ^ 32
+
+optional-limit : (t : Bool) (p : ℕ) (l : List ℕ) (x : Decoded ℕ ℕ) → readExtensionLength t p l ≡ ok x → x .value < 2 ^ 32
+unfolding select
+optional-limit true p l x e = ue7-limit 32 p p l x e
+optional-limit false p l x e = subst (λ (y : Decoded ℕ ℕ). y .value < 2 ^ 32) (ok-injective e) (omega arith)
+
+pub head-bounds : (l : List ℕ) (h : Head) → readHead l ≡ ok h → HeadBounds h
+head-bounds l h e =
+    take-apart HeadBounds l h e λ f w v s x e1 e2 e3 e4 e5.
+    let b = flag-bounds l f e1 in
+    record {
+      format = b .0;
+      depth = b .1;
+      space = b .2;
+      width = ue7-limit 32 6 6 (drop 6 l) w e2;
+      height = ue7-limit 32 (w .next) (w .next) (w .rest) v e3;
+      data-length = ue7-limit 32 (v .next) (v .next) (v .rest) s e4;
+      extension-length = optional-limit (f .extensionPresent) (s .next) (s .rest) x e5;
     }

@@ -2,3 +2,5 @@
 pub mod FlagBytes
 pub mod Sizes
 pub mod Heads
+pub mod Calls
+pub mod Requirements

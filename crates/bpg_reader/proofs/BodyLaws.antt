@@ -28,7 +28,7 @@ use Rattle.bpg_read_entries.specs.Blocks.{blockAnswer}
 use Rattle.bpg_read_headers.specs.declared.headers.HeadersReading.{HeadersReading}
 use Rattle.bpg_read_headers.specs.BothHeaders.{headersAnswer}
 use Rattle.bpg_reader.specs.Bodies.{HeadRead, headersStart, bodyContent, stop, afterHeaders}
-use Rattle.bpg_reader.specs.declared.body.Stop.{Stop}
+use Rattle.bpg_reader.specs.declared.rest.Stop.{Stop}
 use Rattle.bpg_reader.proofs.BodyChain.{headersOf, fromData, fromHeaders, afterBlock, headers-inside, body-chain}
 
 -- ---- the block

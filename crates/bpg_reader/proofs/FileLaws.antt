@@ -31,12 +31,6 @@ module _ (file : List ℕ) (short : length file ≤ maxFile) (head : Head) (read
   unfolding readContent
   refused-with s o e = rw (le-leb (length file) maxFile short, e)
 
-  pub head-refused : head .status ≢ 0 → refusedReading (head .status) (head .offset .0) ≡ readFile file
-  unfolding readFile
-  head-refused n =
-      refused-error headAnswer (λ r. r .status) (λ _. refl) (λ _ _. refl) (readHead file) head read n λ s o w.
-      rw (refused-with s o w, read, w)
-
   pub head-read : All Byte file → head .status ≡ 0 → HeadRead file (headFields head)
   head-read bytes z =
       accepted-value headAnswer (λ r. r .status) (λ _. refl) (λ _ _. refl) (readHead file) head read z
@@ -44,11 +38,6 @@ module _ (file : List ℕ) (short : length file ≤ maxFile) (head : Head) (read
       let known : readHead file ≡ ok (headFields head) = w ∙ ap (λ (x : Head). ok (headFields x)) (sym (read ∙ ap headAnswer w)) in
       let f = head-facts file (headFields head) known in
       record { bytes = bytes; short = short; read = known; end-inside = f .end-inside; depth-limit = f .depth-limit }
-
-pub body-answer : {file : List ℕ} (head : Head) → HeadRead file (headFields head)
-    → answerOf (readBody (headFields head) (drop (head .end .0) file)) ≡ readFile file
-unfolding readFile
-body-answer head k = ap answerOf (sym (content-is k))
 
 -- of bytes, the status is 0 exactly when they are an accepted file
 pub exact : (file : List ℕ) → All Byte file → (r : Reading) → r ≡ readFile file → (r ≡ readFile file) × ((r .status ≡ 0) ↔ Accepted file)

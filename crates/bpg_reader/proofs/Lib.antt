@@ -5,3 +5,5 @@ pub mod BodyChain
 pub mod BodyRecord
 pub mod BodyLaws
 pub mod FileLaws
+pub mod GivenLaws
+pub mod Requirements

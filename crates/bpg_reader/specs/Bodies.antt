@@ -1,5 +1,6 @@
 -- What the reader of the body (document 01, "Order of the file", items 4 to 7) is given and puts together.
 use mathlib.Core.Path.{_≡_}
+use mathlib.Core.Bool.{Bool, not, _||_}
 use mathlib.Core.List.{List}
 use Prim.Native.Nat.{ℕ, _+_, _≤_}
 use lib.Dec.{eqb}
@@ -15,8 +16,10 @@ use Rattle.bpg_format.specs.Content.{Extension, Content}
 use Rattle.bpg_format.specs.Tests.{dataAllowed}
 use Rattle.bpg_format.specs.Read.{Head, readHead, animationOf}
 use Rattle.bpg_read_head.specs.declared.head.Head.{Head as HeadReading}
+use Rattle.bpg_read_head.specs.declared.call.CodedHead.{CodedHead}
 use Rattle.bpg_read_head.specs.FlagBytes.{flagFields}
-use Rattle.bpg_reader.specs.declared.body.Stop.{Stop}
+use Rattle.bpg_read_head.specs.Calls.{fieldsOf, isHead}
+use Rattle.bpg_reader.specs.declared.rest.Stop.{Stop}
 
 -- what a head that was read says
 abbrev pub headFields : HeadReading → Head
@@ -64,3 +67,11 @@ stop s o = record { status = s; offset = bytePos o }
 -- after headers that were refused with s at o, or read up to p: 26 at the first data byte
 abbrev pub afterHeaders : List ℕ → (s o p : ℕ) → Stop
 afterHeaders file s o p = select (eqb s 0) (select (dataAllowed (drop p file)) (stop 0 0) (stop 26 p)) (stop s o)
+
+-- no head was given, or the one given is this one
+abbrev pub asked : (isGiven : Bool) (given : List ℕ) → CodedHead → Bool
+asked g l h = not g || isHead l h
+
+-- after a head that was refused, or read: 21 at 0 for one that is not asked for
+abbrev pub afterHead : HeadReading → (CodedHead → Bool) → Stop
+afterHead h isAsked = select (eqb (h .status) 0) (select (isAsked (fieldsOf h)) (stop 0 0) (stop 21 0)) (stop (h .status) (h .offset .0))

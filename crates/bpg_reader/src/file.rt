@@ -1,9 +1,6 @@
-// Reading a file: its limit, its head, its body.
-use crate::body;
-use bpg_format::MAX_FILE;
+// Reading a file.
+use crate::given::read_or_body;
 use bpg_format::Reading;
-use bpg_format::reading_refused;
-use bpg_read_head::head;
 ghost use mathlib.Core.Path.{_≡_};
 ghost use mathlib.Core.Logic.{_↔_};
 ghost use Rattle.bpg_format.specs.Rules.{Accepted};
@@ -14,12 +11,6 @@ pub fn read(file: &[u8]) -> Reading
     ensures { λ r. ⌜ r ≡ readFile (now (file .entry)) ⌝ }
     ensures { λ r. ⌜ (r .status ≡ 0) ↔ Accepted (now (file .entry)) ⌝ }
 {
-    if MAX_FILE < file.len() {
-        return reading_refused(1, 0);
-    }
-    let head = head::read(file);
-    if head.status != 0 {
-        return reading_refused(head.status, head.offset.0);
-    }
-    body::read(file, head)
+    let none = [0u64; 1];
+    read_or_body(file, &none, false)
 }

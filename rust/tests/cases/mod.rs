@@ -5,6 +5,7 @@ pub mod bytes;
 pub mod faults;
 pub mod frames;
 pub mod header;
+pub mod heads;
 pub mod large;
 pub mod loops;
 pub mod model;

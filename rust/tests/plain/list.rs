@@ -18,7 +18,12 @@ pub const NUMBERS: usize = FIXED + ENTRY * MAX_ENTRIES;
 
 /// Reads a file into the start of a list. The list keeps its other numbers, and all if the call is refused.
 pub fn read_list(file: &[u8], list: &mut [u64]) -> Result<(), Refusal> {
-    let record = read(file)?;
+    put_list(&read(file)?, list)
+}
+
+/// A record into the start of a list.
+#[inline]
+pub fn put_list(record: &Record, list: &mut [u64]) -> Result<(), Refusal> {
     let used = record.used().unwrap_or_default();
     let Some((fixed, rest)) = list.split_first_chunk_mut() else {
         return refuse(Reason::BufferTooSmall, 0);
@@ -26,7 +31,7 @@ pub fn read_list(file: &[u8], list: &mut [u64]) -> Result<(), Refusal> {
     let Some(entries) = rest.get_mut(..ENTRY * used.len()) else {
         return refuse(Reason::BufferTooSmall, 0);
     };
-    fill(fixed, &record);
+    fill(fixed, record);
     for (numbers, entry) in entries.chunks_exact_mut(ENTRY).zip(used) {
         let Span { start, length } = entry.payload;
         numbers.copy_from_slice(&[entry.tag.into(), start.into(), length.into()]);

@@ -44,7 +44,7 @@ pub fn data_allowed(data: &[u8]) -> bool {
 }
 
 #[inline]
-fn flags(file: &[u8], record: &mut Record) -> Result<(), Refusal> {
+pub fn flags(file: &[u8], record: &mut Record) -> Result<(), Refusal> {
     let Some(&[m0, m1, m2, m3, format, space]) = file.first_chunk() else {
         return refuse(Reason::Truncated, 0);
     };
@@ -82,7 +82,7 @@ pub fn broken_flags(record: &Record) -> Option<Reason> {
 
 /// Width or height.
 #[inline]
-fn size(cursor: &mut Cursor) -> Result<u32, Refusal> {
+pub fn size(cursor: &mut Cursor) -> Result<u32, Refusal> {
     let item = cursor.at;
     match cursor.ue7(32)? {
         0 => refuse(Reason::EmptyPicture, item),

@@ -1,4 +1,4 @@
--- `body::read` meets its contract.
+-- `rest::read` meets its contract.
 use mathlib.Core.Path.{_≡_, sym, ap, _∙_}
 use mathlib.Core.Bool.{Bool, true, not, _||_}
 use mathlib.Core.List.{List}
@@ -15,8 +15,8 @@ use Rattle.bpg_reader.proofs.BodyLaws.{BlockRead, block-refused, block-
 use Rattle.bpg_reader.proofs.BodyLaws.{BodyRead, stopped, body-known}
 use Rattle.bpg_reader.proofs.BodyRecord.{min-cb-small, body-read}
 use borrow.Author.Needs.{needs}
-use Rattle.bpg_reader.proofs.body.read.Statement.{statement}
-use Rattle.bpg_reader.proofs.body.read.Tie as tie
+use Rattle.bpg_reader.proofs.rest.read.Statement.{statement}
+use Rattle.bpg_reader.proofs.rest.read.Tie as tie
 
 -- ---- what is known after each step
 

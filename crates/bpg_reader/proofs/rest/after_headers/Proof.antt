@@ -1,4 +1,4 @@
--- `body::after_headers` meets its contract.
+-- `rest::after_headers` meets its contract.
 use mathlib.Core.Path.{_≡_, sym, ap, _∙_}
 use mathlib.Core.List.{List}
 use Prim.Native.Nat.{ℕ}
@@ -7,8 +7,8 @@ use borrow.Author.Needs.{needs}
 use borrow.Author.Tests.{not-true, not-false}
 use Rattle.bpg_format.specs.Tests.{dataAllowed}
 use Rattle.bpg_reader.proofs.BodyLaws.{to-end, stops-there, data-stops, goes-on}
-use Rattle.bpg_reader.proofs.body.after_headers.Statement.{statement}
-use Rattle.bpg_reader.proofs.body.after_headers.Tie as tie
+use Rattle.bpg_reader.proofs.rest.after_headers.Statement.{statement}
+use Rattle.bpg_reader.proofs.rest.after_headers.Tie as tie
 
 returns : tie.Need-returns
 returns c = let a = c .before .before .args in stops-there (a .file .now) _ _ (a .next .0) (c .if1 .taken)

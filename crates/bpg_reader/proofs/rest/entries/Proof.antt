@@ -1,9 +1,9 @@
--- `body::entries` meets its contract.
+-- `rest::entries` meets its contract.
 use mathlib.Core.Path.{_∙_}
 use Rattle.bpg_reader.proofs.EntryBlock.{block-too-large, block-empty, block-region}
 use borrow.Author.Needs.{needs}
-use Rattle.bpg_reader.proofs.body.entries.Statement.{statement}
-use Rattle.bpg_reader.proofs.body.entries.Tie as tie
+use Rattle.bpg_reader.proofs.rest.entries.Statement.{statement}
+use Rattle.bpg_reader.proofs.rest.entries.Tie as tie
 
 returns : tie.Need-returns
 returns c = c .refused .ensures ∙ block-too-large (c .before .before .before .before .before .pre) (c .before .if1 .taken)

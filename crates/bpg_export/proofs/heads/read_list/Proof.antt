@@ -1,0 +1,16 @@
+-- `heads::read_list` meets its contract.
+use Rattle.bpg_export.specs.Calls.{eitherReading}
+use Rattle.bpg_export.proofs.CallLaws.{listed-parts}
+use borrow.Author.Needs.{needs}
+use Rattle.bpg_export.proofs.heads.read_list.Statement.{statement}
+use Rattle.bpg_export.proofs.heads.read_list.Tie as tie
+
+returns : tie.Need-returns
+returns c =
+    let w = c .before .before in
+    let r = w .before .before in
+    let a = r .before .before .before .before .args in
+    listed-parts (a .numbers .now) (r .read-or-body .result) (eitherReading (a .is-given) (a .head .now) (a .file .now)) _ _ (r .read-or-body .ensures) (w .write .ensures .0) (w .write .ensures .1)
+
+pub read-list-spec : {M : Type 1} → statement M
+read-list-spec = tie.close (tie.spec (λ c κs. search needs) (λ c κs. search needs) (λ c. search needs) returns)

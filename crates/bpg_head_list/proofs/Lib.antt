@@ -1,0 +1,2 @@
+-- Laws of the list of a head.
+pub mod ListLaws

@@ -1,0 +1,2 @@
+-- What the list of a head answers.
+pub mod Calls
