@@ -4,7 +4,7 @@
 pub const MAX_FILE: usize = 16_777_216;
 
 /// The most extension entries that a file may have.
-pub const MAX_ENTRIES: usize = 16;
+pub const MAX_ENTRIES: usize = 64;
 
 /// The tags of extension entries that BPG defines; an entry may have any other.
 pub mod tag {

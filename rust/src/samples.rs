@@ -34,6 +34,7 @@ impl Depth {
         }
     }
 
+    /// How many bits a sample has.
     pub const fn bits(self) -> u8 {
         self.0
     }

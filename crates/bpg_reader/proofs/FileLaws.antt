@@ -3,7 +3,7 @@ use mathlib.Core.Path.{_≡_, refl, sym, ap, _∙_, subst}
 use mathlib.Core.Logic.{_↔_, _≢_}
 use mathlib.Core.List.{List}
 use Prim.Native.Nat.{ℕ, _≤_, _<_}
-use lib.ListN.{length, drop}
+use lib.ListN.{length}
 use borrow.Author.Tests.{le-leb, lt-leb}
 use Rattle.bpg_codec.specs.Outcome.{ok, error}
 use Rattle.bpg_codec.specs.Lawful.{All, Byte}
@@ -12,15 +12,14 @@ use Rattle.bpg_format.specs.Limits.{maxFile}
 use Rattle.bpg_format.specs.declared.answer.Reading.{Reading}
 use Rattle.bpg_format.specs.Zero.{refusedReading}
 use Rattle.bpg_format.specs.Rules.{Accepted}
-use Rattle.bpg_format.specs.Read.{readHead, readBody, readContent, ReadingStatus}
-use Rattle.bpg_format.specs.Records.{answerOf, readFile}
+use Rattle.bpg_format.specs.Read.{readHead, readContent, ReadingStatus}
+use Rattle.bpg_format.specs.Records.{readFile}
 use Rattle.bpg_format.proofs.ReadingLaws.{accepted-status, status-accepted}
 use Rattle.bpg_format.proofs.ReadingRefusals.{content-refuses}
 use Rattle.bpg_read_head.specs.declared.head.Head.{Head}
 use Rattle.bpg_read_head.specs.Heads.{headAnswer}
 use Rattle.bpg_read_head.proofs.HeadLaws.{head-facts}
 use Rattle.bpg_reader.specs.Bodies.{headFields, HeadRead}
-use Rattle.bpg_reader.proofs.BodyLaws.{content-is}
 
 pub too-long : (file : List ℕ) → maxFile < length file → refusedReading 1 0 ≡ readFile file
 unfolding readFile readContent
@@ -44,11 +43,6 @@ module _ (file : List ℕ) (short : length file ≤ maxFile) (head : Head) (read
       let known : readHead file ≡ ok (headFields head) = w ∙ ap (λ (x : Head). ok (headFields x)) (sym (read ∙ ap headAnswer w)) in
       let f = head-facts file (headFields head) known in
       record { bytes = bytes; short = short; read = known; end-inside = f .end-inside; depth-limit = f .depth-limit }
-
-pub body-answer : {file : List ℕ} (head : Head) → HeadRead file (headFields head)
-    → answerOf (readBody (headFields head) (drop (head .end .0) file)) ≡ readFile file
-unfolding readFile
-body-answer head k = ap answerOf (sym (content-is k))
 
 -- of bytes, the status is 0 exactly when they are an accepted file
 pub exact : (file : List ℕ) → All Byte file → (r : Reading) → r ≡ readFile file → (r ≡ readFile file) × ((r .status ≡ 0) ↔ Accepted file)

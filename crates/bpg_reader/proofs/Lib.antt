@@ -5,3 +5,4 @@ pub mod BodyChain
 pub mod BodyRecord
 pub mod BodyLaws
 pub mod FileLaws
+pub mod Filling

@@ -1,11 +1,11 @@
 -- What the reader of the body (document 01, "Order of the file", items 4 to 7) is given and puts together.
 use mathlib.Core.Path.{_≡_}
 use mathlib.Core.List.{List}
-use Prim.Native.Nat.{ℕ, _+_, _≤_}
+use Prim.Native.Nat.{ℕ, _+_, _-_, _≤_}
 use lib.Dec.{eqb}
 use lib.ListN.{length, drop}
 use Rattle.bpg_codec.specs.Select.{select}
-use Rattle.bpg_codec.specs.Outcome.{ok}
+use Rattle.bpg_codec.specs.Outcome.{Outcome, ok, error}
 use Rattle.bpg_codec.specs.Lawful.{All, Byte}
 use Rattle.bpg_ue7.specs.Ue7.{notZero}
 use Rattle.bpg_bytes.specs.Positions.{bytePos}
@@ -16,7 +16,10 @@ use Rattle.bpg_format.specs.Tests.{dataAllowed}
 use Rattle.bpg_format.specs.Read.{Head, readHead, animationOf}
 use Rattle.bpg_read_head.specs.declared.head.Head.{Head as HeadReading}
 use Rattle.bpg_read_head.specs.FlagBytes.{flagFields}
+use Rattle.bpg_read_entries.specs.Blocks.{refusedBlock, blockAnswer}
+use Rattle.bpg_read_headers.specs.BothHeaders.{refusedHeaders, headersAnswer}
 use Rattle.bpg_reader.specs.declared.body.Stop.{Stop}
+use Rattle.bpg_reader.specs.declared.body.Survey.{Survey}
 
 -- what a head that was read says
 abbrev pub headFields : HeadReading → Head
@@ -64,3 +67,17 @@ stop s o = record { status = s; offset = bytePos o }
 -- after headers that were refused with s at o, or read up to p: 26 at the first data byte
 abbrev pub afterHeaders : List ℕ → (s o p : ℕ) → Stop
 afterHeaders file s o p = select (eqb s 0) (select (dataAllowed (drop p file)) (stop 0 0) (stop 26 p)) (stop s o)
+
+abbrev pub refusedSurvey : (status offset : ℕ) → Survey
+refusedSurvey s o = record { status = s; offset = bytePos o; block = refusedBlock 0 0; both = refusedHeaders 0 0 }
+
+-- what a body says, of a file of `len` bytes; the data is its end
+abbrev pub surveyOf : (len : ℕ) → Outcome Content → Survey
+surveyOf len (ok c) =
+    record {
+      status = 0;
+      offset = bytePos 0;
+      block = blockAnswer (ok (c .extensions));
+      both = headersAnswer (ok (c .alphaHeader, c .colorHeader, len - length (c .hevcData)));
+    }
+surveyOf len (error s o) = refusedSurvey s o

@@ -1,8 +1,10 @@
-// Reading a file: its limit, its head, its body.
+// Reading a file: its limit, its head, its body; and its entries, which are read a second time and stored in the record where it is answered.
+use crate::answer;
 use crate::body;
 use bpg_format::MAX_FILE;
 use bpg_format::Reading;
 use bpg_format::reading_refused;
+use bpg_read_entries::entry;
 use bpg_read_head::head;
 ghost use mathlib.Core.Path.{_≡_};
 ghost use mathlib.Core.Logic.{_↔_};
@@ -21,5 +23,26 @@ pub fn read(file: &[u8]) -> Reading
     if head.status != 0 {
         return reading_refused(head.status, head.offset.0);
     }
-    body::read(file, head)
+    let body = body::read(file, head);
+    if body.status != 0 {
+        return reading_refused(body.status, body.offset.0);
+    }
+    if body.block.entry_count == 0 {
+        return answer::assemble(file.len(), head, body.block, body.both);
+    }
+    let mut reading = answer::assemble(file.len(), head, body.block, body.both);
+    let mut record = reading.record;
+    let count = body.block.entry_count as usize;
+    let end = head.end.0 + head.extension_length as usize;
+    let mut next = head.end;
+    let mut k: usize = 0;
+    while k < count {
+        let step = entry::read_checked(&file[0..end], next);
+        let entry = step.entry;
+        record.entries[k] = entry;
+        next = step.next;
+        k += 1;
+    }
+    reading.record = record;
+    reading
 }
