@@ -59,12 +59,13 @@ static struct file with_data(const void *data, size_t length) {
     return file;
 }
 
-/* A with an extension block of these bytes, fewer than 128. */
+/* A with an extension block of these bytes, fewer than 16,384: its length has two bytes from 128 on. */
 static struct file with_block(const void *block, size_t length) {
     struct file file = changed(5, 0x08);
-    uint8_t block_length = (uint8_t)length;
+    const uint8_t block_length[] = {(uint8_t)(0x80 | length / 128), (uint8_t)(length % 128)};
+    const size_t first = length < 128 ? 1 : 0;
     file.length = 10;
-    put(&file, &block_length, 1);
+    put(&file, block_length + first, 2 - first);
     put(&file, block, length);
     put(&file, A + 10, 6);
     return file;
@@ -72,7 +73,7 @@ static struct file with_block(const void *block, size_t length) {
 
 /* So many entries with tag 6 and no payload. */
 static struct file with_entries(size_t count) {
-    uint8_t block[128] = {0};
+    uint8_t block[2 * (BPG_MAX_ENTRIES + 1)] = {0};
     size_t k;
     for (k = 0; k < count; k++) {
         block[2 * k] = 6;
@@ -110,6 +111,7 @@ static void read_examples(void) {
     CHECK(record_of(B, sizeof B).explicit_length == 1);
     CHECK(c.animation_flag == 1 && c.extension_present_flag == 1 && c.entry_count == 1);
     CHECK(c.entries[0].tag == BPG_TAG_ANIMATION_CONTROL && c.entries[0].start == 13 && c.entries[0].length == 3);
+    CHECK(c.entries[0].tag_offset == 11);
     CHECK(c.loop_count == 0 && c.frame_period_num == 1 && c.frame_period_den == 10);
     CHECK(record_of(A, sizeof A).color_header.sample_adaptive_offset_enabled_flag == 1);
 }
@@ -128,7 +130,7 @@ static void read_refusals(void) {
     REFUSED(with_block("\x90\x80\x80\x80\x00\x00", 6), BPG_NUMBER_TOO_LARGE, 15);
     REFUSED(changed(6, 0x00), BPG_EMPTY_PICTURE, 6);
     REFUSED(changed(9, 0x05), BPG_BAD_DATA_LENGTH, 9);
-    REFUSED(with_entries(BPG_MAX_ENTRIES + 1), BPG_TOO_MANY_ENTRIES, 11 + 2 * BPG_MAX_ENTRIES);
+    REFUSED(with_entries(BPG_MAX_ENTRIES + 1), BPG_TOO_MANY_ENTRIES, 12 + 2 * BPG_MAX_ENTRIES);
     REFUSED(period, BPG_ZERO_PERIOD, 14);
     REFUSED(with_block("\x05\x03\x00\x01\x0A\x05\x00", 7), BPG_SECOND_LOOP, 16);
     REFUSED(changed(5, 0x01), BPG_NO_LOOP, 5);
@@ -276,17 +278,19 @@ static void entries_to_the_limit(void) {
 static void tag(uint32_t tag) {
     struct bpg_record record = record_of(A, sizeof A);
     struct file file = {{0}, 0};
-    uint32_t found, start, length;
+    uint32_t found, start, length, tag_offset;
     size_t payload_length;
     CHECK(bpg_push_entry(&record, tag, 11, 3));
     ANSWERED(bpg_write_record(&record, A, sizeof A, file.bytes, sizeof file.bytes, &file.length), BPG_OK);
     record = record_of(file.bytes, file.length);
     CHECK(record.entry_count == 1 && record.entries[0].tag == tag);
-    CHECK(bpg_entry(file.bytes, file.length, 0, &found, &start, &length) && found == tag);
+    CHECK(bpg_entry(file.bytes, file.length, 0, &found, &start, &length, &tag_offset) && found == tag);
+    CHECK(tag_offset == record.entries[0].tag_offset && tag_offset == 11);
     CHECK(start == record.entries[0].start && length == record.entries[0].length && length == 3);
     CHECK(bpg_payload(file.bytes, file.length, &record, 0, &payload_length) == file.bytes + start && payload_length == 3);
     CHECK(memcmp(file.bytes + start, A + 11, 3) == 0);
-    CHECK(!bpg_entry(file.bytes, file.length, 1, &found, &start, &length) && found == 0 && start == 0 && length == 0);
+    CHECK(!bpg_entry(file.bytes, file.length, 1, &found, &start, &length, &tag_offset) && found == 0 && start == 0);
+    CHECK(length == 0 && tag_offset == 0);
 }
 
 static void tags(void) {
@@ -460,6 +464,7 @@ static void write_lists(void) {
     const size_t needed = BPG_FIXED_NUMBERS + 2 * BPG_ENTRY_NUMBERS;
     ANSWERED(bpg_read(file.bytes, file.length, numbers, needed, &offset), BPG_OK);
     numbers[needed] = UINT64_MAX; /* no part of the record */
+    numbers[needed - 1] = UINT32_MAX; /* the second tag's offset, to which writing pays no heed */
     ANSWERED(bpg_write_size(numbers, BPG_RECORD_NUMBERS, file.bytes, file.length, &count), BPG_OK);
     CHECK(count == file.length);
     numbers[0] = 256;

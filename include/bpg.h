@@ -32,7 +32,7 @@ extern "C" {
 
 /* The most bytes, and the most extension entries, that a file may have. */
 #define BPG_MAX_FILE 16777216
-#define BPG_MAX_ENTRIES 16
+#define BPG_MAX_ENTRIES 64
 
 /* So many bytes of a file, or all of a shorter one, are always enough for its head. */
 #define BPG_HEAD_BYTES 27
@@ -86,7 +86,7 @@ enum bpg_alpha_kind {
     X(BPG_NUMBER_TOO_LARGE, 8, "an integer is too large") \
     X(BPG_EMPTY_PICTURE, 9, "the width or height is 0") \
     X(BPG_BAD_DATA_LENGTH, 10, "the picture data length misses the end of the file") \
-    X(BPG_TOO_MANY_ENTRIES, 11, "there are more than 16 extension entries") \
+    X(BPG_TOO_MANY_ENTRIES, 11, "there are more than 64 extension entries") \
     X(BPG_ZERO_PERIOD, 12, "a number of the frame period is 0") \
     X(BPG_SECOND_LOOP, 13, "there is a second animation control entry") \
     X(BPG_NO_LOOP, 14, "an animation has no animation control entry") \
@@ -164,11 +164,13 @@ struct bpg_hevc_header {
     uint64_t cabac_bypass_alignment_enabled_flag;
 };
 
-/* An extension entry: its tag, and where its payload starts and how long it is, in the file that was read or in the source to write from. */
+/* An extension entry: its tag, where its payload starts and how long it is, in the file that was read or in the source to write from, and where its
+ * tag begins in the file that was read: that last number is not looked at in writing, but for that it is at most 2^32 - 1. */
 struct bpg_record_entry {
-    uint64_t tag;    /* u32; enum bpg_tag, or any other */
-    uint64_t start;  /* u32 */
-    uint64_t length; /* u32 */
+    uint64_t tag;        /* u32; enum bpg_tag, or any other */
+    uint64_t start;      /* u32 */
+    uint64_t length;     /* u32 */
+    uint64_t tag_offset; /* u32 */
 };
 
 struct bpg_record {
@@ -217,7 +219,7 @@ struct bpg_head {
 
 /* How many numbers stand before the entries, how many an entry has, and how many struct bpg_record has. */
 #define BPG_FIXED_NUMBERS 69
-#define BPG_ENTRY_NUMBERS 3
+#define BPG_ENTRY_NUMBERS 4
 #define BPG_RECORD_NUMBERS (BPG_FIXED_NUMBERS + BPG_ENTRY_NUMBERS * BPG_MAX_ENTRIES)
 
 #if defined(__cplusplus)
@@ -267,8 +269,8 @@ uint8_t bpg_head(const uint8_t *file, size_t file_len, uint64_t *numbers, size_t
 uint8_t bpg_body(const uint64_t *head, size_t head_len, const uint8_t *file, size_t file_len, uint64_t *numbers, size_t numbers_len,
                  size_t *offset);
 
-/* Tag and payload range of entry k, from 0. False and zeros if the file is refused or has no entry k. */
-bool bpg_entry(const uint8_t *file, size_t file_len, size_t k, uint32_t *tag, uint32_t *start, uint32_t *length);
+/* Tag, payload range and the tag's offset of entry k, from 0. False and zeros if the file is refused or has no entry k. */
+bool bpg_entry(const uint8_t *file, size_t file_len, size_t k, uint32_t *tag, uint32_t *start, uint32_t *length, uint32_t *tag_offset);
 
 /* Writes the file of a record, whose ranges lie in source, from the start of out; *count is its size, 0 if refused. Of the list itself are refused,
  * in this order: fewer than BPG_FIXED_NUMBERS numbers (20), a fixed number that its field cannot hold (19), entry_count above BPG_MAX_ENTRIES (11),
@@ -381,8 +383,8 @@ static inline enum bpg_alpha_kind bpg_alpha_kind_of(const struct bpg_record *rec
     return record->alpha2_flag != 0 ? BPG_ALPHA_WHITE : BPG_ALPHA_NONE;
 }
 
-/* Puts an entry after those in use, and sets extension_present_flag; its payload is this range of the source to write from. False, and nothing
- * is changed, if the record has BPG_MAX_ENTRIES entries. */
+/* Puts an entry after those in use, and sets extension_present_flag; its payload is this range of the source to write from, and its
+ * tag_offset 0. False, and nothing is changed, if the record has BPG_MAX_ENTRIES entries. */
 static inline bool bpg_push_entry(struct bpg_record *record, uint32_t tag, uint32_t start, uint32_t length) {
     struct bpg_record_entry *entry;
     if (record->entry_count >= BPG_MAX_ENTRIES) {
@@ -392,6 +394,7 @@ static inline bool bpg_push_entry(struct bpg_record *record, uint32_t tag, uint3
     entry->tag = tag;
     entry->start = start;
     entry->length = length;
+    entry->tag_offset = 0;
     record->entry_count += 1;
     record->extension_present_flag = 1;
     return true;

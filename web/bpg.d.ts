@@ -6,9 +6,10 @@ export interface ByteRange {
   length: number;
 }
 
-/** An extension entry: its tag, and where its payload stands. */
+/** An extension entry: its tag, where its payload stands, and where its tag begins in the file that was read: writing does not look at that. */
 export interface Entry extends ByteRange {
   tag: number;
+  tagOffset?: number;
 }
 
 /** A HEVC header, its fields as coded. Fields that are not in the file are 0 or false. */

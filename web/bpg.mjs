@@ -146,10 +146,10 @@ export class Bpg {
     const bytes = fileBytes(file);
     this.#put(bytes);
     const { room, results } = this.#memory;
-    const found = this.#calls.bpg_entry(room, BigInt(bytes.length), BigInt(k), results, results + 4, results + 8);
+    const found = this.#calls.bpg_entry(room, BigInt(bytes.length), BigInt(k), results, results + 4, results + 8, results + 12);
     if ((found & 0xff) === 0) return null;
-    const [tag, start, length] = this.#memory.words.subarray(results / 4, results / 4 + 3);
-    return { tag, start, length };
+    const [tag, start, length, tagOffset] = this.#memory.words.subarray(results / 4, results / 4 + 4);
+    return { tag, start, length, tagOffset };
   }
 
   /** The payload of the entry with index k as a subarray; an empty one past the last entry and for a refused file. */

@@ -3,7 +3,7 @@
 // The list (include/bpg.h) has numbers of 64 bits. Here it is seen as words of 32 bits, the low one first: only the coded size needs the high
 // one, and so no BigInt is made. `at` is the index of the list's first word.
 
-export const MAX_ENTRIES = 16;
+export const MAX_ENTRIES = 64;
 
 // Where numbers stand that are not the first ones; the entries in use come last, one after another.
 const LOOP_COUNT = 11;
@@ -13,7 +13,7 @@ const DATA = 64;
 const CODED_SIZE = 66;
 const ENTRY_COUNT = 68;
 const ENTRIES = 69;
-const ENTRY_NUMBERS = 3;
+const ENTRY_NUMBERS = 4;
 
 /** How many numbers the longest list has. */
 export const MAX_NUMBERS = ENTRIES + MAX_ENTRIES * ENTRY_NUMBERS;
@@ -81,7 +81,7 @@ export function entriesOf(words, at) {
   const entries = [];
   let k = at + 2 * ENTRIES;
   for (let left = words[at + 2 * ENTRY_COUNT]; left > 0; left--, k += 2 * ENTRY_NUMBERS) {
-    entries.push({ tag: words[k], start: words[k + 2], length: words[k + 4] });
+    entries.push({ tag: words[k], start: words[k + 2], length: words[k + 4], tagOffset: words[k + 6] });
   }
   return entries;
 }
@@ -124,7 +124,7 @@ const HEADER_FIELDS = Object.keys(headerOf(NOTHING, 0));
 const HEAD_FIELDS = Object.keys(headOf(NOTHING, 0));
 const FIRST_FIELDS = Object.keys(recordOf(NOTHING, 0)).slice(0, ALPHA_HEADER);
 const RANGE_FIELDS = ['start', 'length'];
-const ENTRY_FIELDS = ['tag', 'start', 'length'];
+const ENTRY_FIELDS = ['tag', 'start', 'length', 'tagOffset'];
 
 /** Puts the list of a record at `at` and answers how many numbers it has. The coded size is not looked at. With too many entries, the list
  *  has their count alone, which the library refuses before it looks for them. */
@@ -152,7 +152,8 @@ export function putHead(head, words, at) {
 function putFields(object, names, words, at, what) {
   if (object === null || typeof object !== 'object') throw new TypeError(`${what} is not an object`);
   for (const name of names) {
-    const value = object[name];
+    // A new entry needs no tag offset: writing does not look at it.
+    const value = name === 'tagOffset' ? (object[name] ?? 0) : object[name];
     const number = typeof value === 'boolean' ? Number(value) : value;
     if (!Number.isSafeInteger(number) || number < 0) throw new TypeError(`${what}.${name} is neither a flag nor a whole number from 0 to 2^53 - 1`);
     words[at++] = number % WORD;

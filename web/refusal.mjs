@@ -12,7 +12,7 @@ const REASONS = {
   8: ['NumberTooLarge', 'an integer is too large'],
   9: ['EmptyPicture', 'the width or height is 0'],
   10: ['BadDataLength', 'the picture data length misses the end of the file'],
-  11: ['TooManyEntries', 'there are more than 16 extension entries'],
+  11: ['TooManyEntries', 'there are more than 64 extension entries'],
   12: ['ZeroPeriod', 'a number of the frame period is 0'],
   13: ['SecondLoop', 'there is a second animation control entry'],
   14: ['NoLoop', 'an animation has no animation control entry'],

@@ -39,7 +39,7 @@ fn main() {
     println!("it has a record of its own in its place, of a third of the size.");
     println!();
     heading();
-    for entries in [0, 3, 16] {
+    for entries in [0, 3, 16, 64] {
         for alpha in [false, true] {
             reading(entries, alpha);
         }
@@ -86,7 +86,7 @@ fn main() {
 }
 
 fn reading(entries: usize, alpha: bool) {
-    let file = &sample::file(entries, alpha, 200)[..];
+    let file = &sample::file(entries, alpha, 200 + 16 * entries)[..];
     let name = format!("{entries} entries{}", if alpha { ", alpha" } else { "" });
     let mut list = [1; plain::NUMBERS];
     let lists = Race::run(

@@ -5,14 +5,15 @@ use core::fmt;
 use crate::number::{accessors, own_fields};
 use crate::Span;
 
-/// An extension entry: its tag, and where its payload stands, in the file that was read or in the source
-/// to write from.
+/// An extension entry: its tag, where its payload stands, in the file that was read or in the source
+/// to write from, and where its tag begins in the file that was read.
 #[derive(Clone, Copy, Default, PartialEq, Eq, Hash)]
 #[repr(C)]
 pub struct Entry {
     tag: u64,
     start: u64,
     length: u64,
+    tag_offset: u64,
 }
 
 own_fields!(Entry);
@@ -25,6 +26,8 @@ accessors! {
         start set_start: u32,
         /// How many bytes the payload has.
         length set_length: u32,
+        /// The offset of the tag's first byte in the file that was read; 0 in a new entry. [`write`](crate::write()) ignores it.
+        tag_offset set_tag_offset: u32,
     }
 }
 
@@ -35,6 +38,7 @@ impl Entry {
             tag: tag.into(),
             start: payload.start.into(),
             length: payload.length.into(),
+            tag_offset: 0,
         }
     }
 

@@ -47,6 +47,7 @@ extern "C" {
         tag: *mut u32,
         start: *mut u32,
         length: *mut u32,
+        tag_offset: *mut u32,
     ) -> bool;
     fn bpg_write(
         numbers: *const u64,
@@ -290,9 +291,9 @@ pub fn numbers(record: &Record) -> &[u64] {
     unsafe { core::slice::from_raw_parts(core::ptr::from_ref(record).cast(), count) }
 }
 
-/// Whether there is an entry with index `k`, and its tag, start and length, or zeros.
-pub fn entry(file: &[u8], k: usize) -> (bool, [u32; 3]) {
-    let [mut tag, mut start, mut length] = [u32::MAX; 3];
+/// Whether there is an entry with index `k`, and its tag, start, length and tag offset, or zeros.
+pub fn entry(file: &[u8], k: usize) -> (bool, [u32; 4]) {
+    let [mut tag, mut start, mut length, mut tag_offset] = [u32::MAX; 4];
     // SAFETY: pointers and lengths of slices and of locals; see above.
     let found = unsafe {
         bpg_entry(
@@ -302,9 +303,10 @@ pub fn entry(file: &[u8], k: usize) -> (bool, [u32; 3]) {
             &mut tag,
             &mut start,
             &mut length,
+            &mut tag_offset,
         )
     };
-    (found, [tag, start, length])
+    (found, [tag, start, length, tag_offset])
 }
 
 /// Status and count; on success that many bytes stand at the start of `out`.

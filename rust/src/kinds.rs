@@ -4,7 +4,7 @@
 pub const MAX_FILE: usize = 16_777_216;
 
 /// The most extension entries that a file may have.
-pub const MAX_ENTRIES: usize = 16;
+pub const MAX_ENTRIES: usize = 64;
 
 /// So many bytes of a file, or all of a shorter one, are always enough for [`head`](crate::head()).
 pub const HEAD_BYTES: usize = 27;

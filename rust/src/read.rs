@@ -29,12 +29,14 @@ pub fn read(file: &[u8]) -> Result<Record, Refusal> {
 /// let a = *b"BPG\xFB\x20\x00\x08\x84\x1E\x00\x03\x92\x4D\x00\x26\x01";
 /// let c = *b"BPG\xFB\x20\x09\x08\x84\x1E\x00\x05\x05\x03\x00\x01\x0A\x03\x92\x4D\x00\x26\x01";
 /// assert_eq!(bpg::entry(&a, 0), None);
-/// assert_eq!(bpg::entry(&c, 0).unwrap().span().range(), 13..16);
+/// let control = bpg::entry(&c, 0).unwrap();
+/// assert_eq!((control.tag_offset(), control.span().range()), (11, 13..16));
 /// ```
 pub fn entry(file: &[u8], k: usize) -> Option<Entry> {
-    let (found, [tag, start, length]) = ffi::entry(file, k);
-    let payload = Span { start, length };
-    found.then_some(Entry::new(tag, payload))
+    let (found, [tag, start, length, tag_offset]) = ffi::entry(file, k);
+    let mut entry = Entry::new(tag, Span { start, length });
+    entry.set_tag_offset(tag_offset);
+    found.then_some(entry)
 }
 
 /// The payload of the entry with index `k`, from 0, as that part of the file: nothing is copied.

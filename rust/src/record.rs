@@ -9,7 +9,7 @@ use crate::{ffi, AlphaKind, Entry, HevcHeader, Reason, Refusal, Span, MAX_ENTRIE
 
 /// How many numbers stand before a record's entries, how many an entry has, and how many a record has.
 pub(crate) const FIXED_NUMBERS: usize = 69;
-pub(crate) const ENTRY_NUMBERS: usize = 3;
+pub(crate) const ENTRY_NUMBERS: usize = 4;
 pub(crate) const RECORD_NUMBERS: usize = FIXED_NUMBERS + ENTRY_NUMBERS * MAX_ENTRIES;
 
 /// The numbers before a record's entries.

@@ -116,7 +116,7 @@ function loopNumbers(random) {
 
 /** The extension block; `depth` levels of thumbnails may stand in it. */
 function block(random, animated, depth, size) {
-  const count = random.pick([0, 1, 2, 3, 5, random.below(18)]);
+  const count = random.pick([0, 1, 2, 3, 5, random.below(18), random.below(67)]);
   const entries = [];
   for (let k = 0; k < count; k++) {
     const tag = random.pick([1, 2, 3, 4, 4, 6, 128, 4294967295]);

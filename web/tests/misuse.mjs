@@ -29,7 +29,7 @@ const tests = {
     const record = bpg.read(C);
     assert.deepEqual([record.pictureWidth, record.pictureHeight, record.codedWidth, record.codedHeight], [8, 542, 8, 544]);
     assert.deepEqual([record.loopCount, record.framePeriodNum, record.framePeriodDen], [0, 1, 10]);
-    assert.deepEqual(record.entries, [{ tag: Tag.ANIMATION_CONTROL, start: 13, length: 3 }]);
+    assert.deepEqual(record.entries, [{ tag: Tag.ANIMATION_CONTROL, start: 13, length: 3, tagOffset: 11 }]);
     assert.deepEqual(bpg.canonicalize(B), A);
     assert.deepEqual(bpg.frames(D), Uint16Array.of(1, 3));
     const shown = [0, 99, 100, 399, 400].map((ms) => bpg.frameAtTime(D, ms).frame);
@@ -131,7 +131,7 @@ const tests = {
     for (const change of [{ pictureWidth: 2 ** 32 }, { pixelFormat: 256 }, { alpha1Flag: 2 }, { loopCount: 65536 }]) {
       assert.throws(() => bpg.write({ ...record, ...change }, C), refusal(19, 0));
     }
-    assert.throws(() => bpg.write({ ...record, entries: Array(17).fill(record.entries[0]) }, C), refusal(11, 0));
+    assert.throws(() => bpg.write({ ...record, entries: Array(MAX_ENTRIES + 1).fill(record.entries[0]) }, C), refusal(11, 0));
     assert.deepEqual(bpg.write({ ...record, codedWidth: undefined, codedHeight: -1 }, C), C);
   },
 

@@ -70,10 +70,10 @@ static void read_file(void) {
 }
 
 static void entry(void) {
-    uint32_t tag = UINT32_MAX, start = UINT32_MAX, length = UINT32_MAX;
+    uint32_t tag = UINT32_MAX, start = UINT32_MAX, length = UINT32_MAX, tag_offset = UINT32_MAX;
     a = get_list(1);
-    status = bpg_entry(a.at, a.count, get_value(), &tag, &start, &length);
-    put_status(), put(&tag, sizeof tag), put(&start, sizeof start), put(&length, sizeof length);
+    status = bpg_entry(a.at, a.count, get_value(), &tag, &start, &length, &tag_offset);
+    put_status(), put(&tag, sizeof tag), put(&start, sizeof start), put(&length, sizeof length), put(&tag_offset, sizeof tag_offset);
 }
 
 static void write_file(void) {

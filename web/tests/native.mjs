@@ -66,7 +66,7 @@ function compare(cases) {
 function spoiltNumbers(numbers) {
   const changed = BigUint64Array.from(numbers);
   for (let changes = random.below(3); changes > 0; changes--) {
-    changed[random.below(changed.length)] = BigInt(random.pick([0, 1, 2, 3, 5, 16, 17, 255, 256, 65536, 2 ** 32 - 1, 2 ** 32, random.below(300)]));
+    changed[random.below(changed.length)] = BigInt(random.pick([0, 1, 2, 3, 5, 16, 17, 64, 65, 255, 256, 65536, 2 ** 32 - 1, 2 ** 32, random.below(300)]));
   }
   return random.once(50) ? changed.slice(0, random.below(changed.length)) : changed;
 }
@@ -92,7 +92,7 @@ function callsOn(bytes) {
   const cases = [];
   const add = (name, ...given) => cases.push({ name, given });
   add('bpg_read', bytes, filled(BigUint64Array, random.once(20) ? random.below(130) : 130, 0xa5a5a5a5a5a5a5a5n));
-  add('bpg_entry', bytes, BigInt(random.pick([0, 1, 2, 15, 16, 2 ** 40])));
+  add('bpg_entry', bytes, BigInt(random.pick([0, 1, 2, 15, 63, 64, 2 ** 40])));
   add('bpg_canonicalize', bytes, filled(Uint8Array, near(bytes.length), 0xa5));
   add('bpg_canonical_size', bytes);
   add('bpg_frames', bytes, filled(Uint16Array, random.below(12), 9999));

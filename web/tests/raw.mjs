@@ -13,7 +13,7 @@ const planes = (read, written) => [...Array(read).fill(list(2)), ...Array(writte
 
 export const SIGNATURES = {
   bpg_read: [list(1), outList(8), result(8)],
-  bpg_entry: [list(1), value, result(4), result(4), result(4)],
+  bpg_entry: [list(1), value, result(4), result(4), result(4), result(4)],
   bpg_write: [list(8), list(1), outList(1), result(8)],
   bpg_canonicalize: [list(1), outList(1), result(8), result(8)],
   bpg_frames: [list(1), outList(2), result(8), result(8)],

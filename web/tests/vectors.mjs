@@ -41,9 +41,11 @@ function headerText(header) {
   return `${fields.slice(0, 16)},${fields.slice(16).join('')}`;
 }
 
+const entryText = ({ tag, start, length, tagOffset }) => `${tag}@${start}+${length}#${tagOffset}`;
+
 function recordText(r) {
   const alpha = [['none', 'white'], ['plain', 'premultiplied']][Number(r.alpha1Flag)][Number(r.alpha2Flag)];
-  const entries = r.entries.map(({ tag, start, length }) => `${tag}@${start}+${length}`).join(' ');
+  const entries = r.entries.map(entryText).join(' ');
   return (
     `size ${r.pictureWidth}x${r.pictureHeight} format ${r.pixelFormat} depth ${r.bitDepthMinus8 + 8} space ${r.colorSpace} alpha ${alpha} ` +
     `range ${r.limitedRangeFlag ? 'limited' : 'full'} ${r.animationFlag ? 'animated' : 'still'} ext ${r.entries.length} data ${r.data.length} | ` +
@@ -55,13 +57,12 @@ function recordText(r) {
 function read(line) {
   const [file, want] = [bytes(line.split(' ', 1)[0]), line.slice(line.indexOf(' ') + 1)];
   same('read', answer(() => bpg.read(file), recordText).replace(/^(?=\d)/, 'refused '), want);
-  const entries = [...want.matchAll(/(\d+)@(\d+)\+(\d+)/g)].map(([text]) => text).join(' ');
-  const cut = ({ tag, start, length }) => `${tag}@${start}+${length}`;
-  same('entries', bpg.entries(file).map(cut).join(' '), entries);
+  const entries = [...want.matchAll(/(\d+)@(\d+)\+(\d+)#(\d+)/g)].map(([text]) => text).join(' ');
+  same('entries', bpg.entries(file).map(entryText).join(' '), entries);
   const data = want.match(/data (\d+)\+(\d+) /);
   same('data', hex(bpg.data(file)), data === null ? '' : hex(file.subarray(Number(data[1]), Number(data[1]) + Number(data[2]))));
   bpg.entries(file).forEach((entry, k) => {
-    same('entry', cut(bpg.entry(file, k)), cut(entry));
+    same('entry', entryText(bpg.entry(file, k)), entryText(entry));
     same('payload', hex(bpg.payload(file, k)), hex(file.subarray(entry.start, entry.start + entry.length)));
   });
 }
@@ -80,7 +81,7 @@ function canonical(line) {
 
 const camel = (name) => name.replace(/_(.)/g, (_, letter) => letter.toUpperCase());
 
-/** The record of a vector, shaped as `read` gives it. Unused entries that are not zero have no place in it. */
+/** The record of a vector, shaped as `read` gives it. Unused entries that are not zero, their tag offset aside, have no place in it. */
 function recordFrom(r) {
   const range = ['transformSkipRotationEnabledFlag', 'transformSkipContextEnabledFlag', 'implicitRdpcmEnabledFlag', 'explicitRdpcmEnabledFlag'];
   range.push('extendedPrecisionProcessingFlag', 'intraSmoothingDisabledFlag', 'highPrecisionOffsetsEnabledFlag');
@@ -88,7 +89,7 @@ function recordFrom(r) {
   const header = ({ range_flags, ...fields }) =>
     Object.fromEntries([...Object.entries(fields).map(([name, field]) => [camel(name), field]), ...range.map((name, k) => [name, range_flags[k]])]);
   const [alphaHeader, colorHeader] = r.headers.map(header);
-  const entries = r.entries.slice(0, r.entry_count).map(([tag, start, length]) => ({ tag, start, length }));
+  const entries = r.entries.slice(0, r.entry_count).map(([tag, start, length, tagOffset]) => ({ tag, start, length, tagOffset }));
   // Above the limit any count is refused alike.
   while (entries.length < Math.min(r.entry_count, MAX_ENTRIES + 1)) entries.push({ tag: 0, start: 0, length: 0 });
   return {
@@ -102,7 +103,7 @@ function recordFrom(r) {
 
 function write(line) {
   const { record, source, room_size, answer: [status, , count], room } = JSON.parse(line);
-  if (record.entries.slice(record.entry_count).some((entry) => entry.some((number) => number !== 0))) return;
+  if (record.entries.slice(record.entry_count).some((entry) => entry.slice(0, 3).some((number) => number !== 0))) return;
   const out = filled(room_size);
   const got = answer(() => bpg.write(recordFrom(record), bytes(source), out), (written) => `0 ${written.length}`);
   const size = answer(() => bpg.writeSize(recordFrom(record), bytes(source)), (length) => (length > room_size ? '20 at 0' : `0 ${length}`));

@@ -1,6 +1,6 @@
 // Runs the calls for C and Rust on a file and prints a line: the file; status, offset and list of reading it, for a list of two numbers
-// more than the longest has, and for one that has room for no entry; whether there is an entry, tag and range, for 18 indices; status,
-// offset, count and buffer of canonicalizing it, for a buffer as long as the file, and for one of eight bytes; status, offset and count of
+// more than the longest has, and for one that has room for no entry; whether there is an entry, tag, range and tag offset, for 66 indices;
+// status, offset, count and buffer of canonicalizing it, for a buffer as long as the file, and for one of eight bytes; status, offset and count of
 // its size. Lists are filled with 9 before, and buffers with a5.
 use crate::text;
 
@@ -15,7 +15,8 @@ fn show_entry(file: &[u8], k: usize) {
     let mut tag: u32 = 9;
     let mut start: u32 = 9;
     let mut length: u32 = 9;
-    if bpg_export::bpg_entry(file, k, &mut tag, &mut start, &mut length) {
+    let mut tag_offset: u32 = 9;
+    if bpg_export::bpg_entry(file, k, &mut tag, &mut start, &mut length, &mut tag_offset) {
         text::show(b" +");
     } else {
         text::show(b" -");
@@ -23,11 +24,12 @@ fn show_entry(file: &[u8], k: usize) {
     text::show_number(b"", tag as u64);
     text::show_number(b"@", start as u64);
     text::show_number(b"+", length as u64);
+    text::show_number(b"#", tag_offset as u64);
 }
 
 fn show_entries(file: &[u8]) {
     text::show(b" | entries");
-    for k in 0..18 {
+    for k in 0..66 {
         show_entry(file, k);
     }
 }
@@ -58,7 +60,7 @@ fn show_size(file: &[u8]) {
 }
 
 pub(crate) fn show(file: &[u8]) {
-    let mut longer = [9u64; 119];
+    let mut longer = [9u64; 327];
     let mut shorter = [9u64; 71];
     text::show_hex(file);
     show_read(file, &mut longer);

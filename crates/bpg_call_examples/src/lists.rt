@@ -1,12 +1,12 @@
 // Writes a record given as a list of numbers and prints a line: status and count of the call for C and Rust, and the buffer after, which
 // is filled with a5 before; status and count of the call for the size.
 //
-// A case is the length of the list, its numbers in five bytes each, the size of the buffer, and the source.
+// A case is the length of the list in two bytes, its numbers in five bytes each, the size of the buffer, and the source.
 use crate::text;
 ghost use Prim.Native.Nat.{_≤_};
 
 // More than a list has.
-const NUMBERS: usize = 120;
+const NUMBERS: usize = 400;
 
 // What is missing counts as 0.
 fn byte(s: &[u8], at: usize) -> u8 {
@@ -18,7 +18,7 @@ fn byte(s: &[u8], at: usize) -> u8 {
 
 // Five bytes, the high byte first.
 fn number(s: &[u8], at: usize) -> u64
-    requires { ⌜ at ≤ 1000 ⌝ }
+    requires { ⌜ at ≤ 3000 ⌝ }
 {
     let high = byte(s, at) as u64 * 256 + byte(s, at + 1) as u64;
     let middle = byte(s, at + 2) as u64 * 256 + byte(s, at + 3) as u64;
@@ -26,11 +26,11 @@ fn number(s: &[u8], at: usize) -> u64
 }
 
 fn list(s: &[u8], numbers: &mut [u64])
-    requires { do ⌜ (← ⟦numbers.len()⟧) ≤ 120 ⌝ }
+    requires { do ⌜ (← ⟦numbers.len()⟧) ≤ 400 ⌝ }
 {
     let mut k: usize = 0;
     while k < numbers.len() {
-        numbers[k] = number(s, 1 + 5 * k);
+        numbers[k] = number(s, 2 + 5 * k);
         k += 1;
     }
 }
@@ -66,8 +66,8 @@ fn show_first(numbers: &[u64], count: usize, source: &[u8], size: usize) {
 }
 
 pub(crate) fn show(s: &[u8]) {
-    let count = byte(s, 0) as usize;
-    let end = 1 + 5 * count;
+    let count = byte(s, 0) as usize * 256 + byte(s, 1) as usize;
+    let end = 2 + 5 * count;
     if s.len() <= end {
         return;
     }

@@ -14,12 +14,12 @@ use Rattle.bpg_codec.proofs.Select.{select-true, select-false}
 use Rattle.bpg_ue7.specs.Ue7.{ue7Bytes}
 use Rattle.bpg_format.specs.declared.record.Entry.{Entry}
 use Rattle.bpg_format.specs.declared.record.Header.{Header}
-use Rattle.bpg_format.specs.Zero.{range, zeroEntry}
 use Rattle.bpg_format.specs.Content.{isEmpty, hasAlpha, Extension, AnimationControl, Content}
 use Rattle.bpg_format.specs.Rules.{isAnimation, ExtensionRules, Rules}
 use Rattle.bpg_format.specs.Syntax.{fileOf}
 use Rattle.bpg_format.specs.Records.{bytesIn, extensionOf, usedEntries, recordOf, contentOf}
-use Rattle.bpg_format.specs.Write.{Writable}
+use Rattle.bpg_format.specs.Zero.{range}
+use Rattle.bpg_format.specs.Write.{ZeroEntry, Writable}
 use Rattle.bpg_format.specs.Pictures.{pictureHeader, headerWith, needsRange, pictureEntry, animationBytes, entryWith, pictureOf, withChoices, canonicalContent, canonicalBytes}
 use Rattle.bpg_format.proofs.RecordLaws.{content-record}
 use Rattle.bpg_format.proofs.Writing.{record-writable}
@@ -69,10 +69,10 @@ module _ (file : List ℕ) (p : AnimationControl) where
       where
         by : (t : Bool) → eqb (e .tag) 5 ≡ t → extensionOf file (canonicalEntry size e) ≡ entryWith p [] (pictureEntry (extensionOf file e))
         by true w =
-            ap (extensionOf file) (select-true (record { tag = e .tag; payload = range (e .payload .start) size }) e w)
+            ap (extensionOf file) (select-true _ e w)
             ∙ ap (λ (x : List ℕ). record { tag = e .tag; payload = x }) (loop-payload w ∙ sym (select-true (animationBytes p []) (pictureEntry (extensionOf file e) .payload) w))
         by false w =
-            ap (extensionOf file) (select-false (record { tag = e .tag; payload = range (e .payload .start) size }) e w)
+            ap (extensionOf file) (select-false _ e w)
             ∙ ap (λ (x : List ℕ). record { tag = e .tag; payload = x })
             (sym (select-false (animationBytes p []) (pictureEntry (extensionOf file e) .payload) w ∙ select-false [] (bytesIn file (e .payload)) w))
 
@@ -81,8 +81,8 @@ module _ (file : List ℕ) (p : AnimationControl) where
       where
         by : (t : Bool) → eqb (e .tag) 5 ≡ t → RangeInside (length file) (canonicalEntry size e)
         by true w =
-            subst (RangeInside (length file)) (sym (select-true (record { tag = e .tag; payload = range (e .payload .start) size }) e w)) (omega (arith, inside, shorter w))
-        by false w = subst (RangeInside (length file)) (sym (select-false (record { tag = e .tag; payload = range (e .payload .start) size }) e w)) inside
+            subst (RangeInside (length file)) (sym (select-true _ e w)) (omega (arith, inside, shorter w))
+        by false w = subst (RangeInside (length file)) (sym (select-false _ e w)) inside
 
   -- ---- all entries
 
@@ -185,7 +185,7 @@ module _ (c : Content) (r : Rules c) where
         few = r .entry-limit;
         payloads = subst (All (RangeInside (length file))) (sym (take-changed g (recordOf c .entries) (length (c .extensions)))) (entries-inside file (c .control) used known (original .payloads));
         data-range = original .data-range;
-        unused = subst (All (λ (e : Entry). e ≡ zeroEntry)) (sym (drop-changed g (recordOf c .entries) (length (c .extensions)))) (original .unused);
+        unused = subst (All ZeroEntry) (sym (drop-changed g (recordOf c .entries) (length (c .extensions)))) (original .unused);
         rules = subst Rules (sym canonical-content) (canonical-rules c r);
         holds = subst (λ (d : Content). length (fileOf d) ≤ length (fileOf (canonicalContent c))) (sym canonical-content) (omega arith);
       }

@@ -19,7 +19,7 @@ loopSize r = length (ue7Bytes (r .«loop_count»)) + length (ue7Bytes (r .«fram
 
 -- (d)
 abbrev pub canonicalEntry : (size : ℕ) → Entry → Entry
-canonicalEntry n e = select (eqb (e .tag) 5) (record { tag = e .tag; payload = range (e .payload .start) n }) e
+canonicalEntry n e = select (eqb (e .tag) 5) (record { tag = e .tag; payload = range (e .payload .start) n; «tag_offset» = e .«tag_offset» }) e
 
 -- one of the nine flags is set, which are there with the range flag
 abbrev pub hasRange : Header → Bool

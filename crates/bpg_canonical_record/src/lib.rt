@@ -34,6 +34,7 @@ fn canonical_entry(entry: Entry, size: u32) -> Entry
             start: entry.payload.start,
             length: size,
         },
+        tag_offset: entry.tag_offset,
     }
 }
 

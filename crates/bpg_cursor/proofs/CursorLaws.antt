@@ -27,8 +27,7 @@ use Rattle.bpg_format.specs.Parts.{entryOf}
 use Rattle.bpg_format.proofs.ReadingLaws.{reads, read-is}
 use Rattle.bpg_format.proofs.RecordLaws.{beforeEntries, file-entries, before-length, entries-length, used-entries}
 use Rattle.bpg_format.proofs.Requirements.{refusals}
-use Rattle.bpg_read_entries.specs.Entries.{entryStart}
-use Rattle.bpg_read_entries.proofs.CheckedEntry.{in-region, past-end, entry-written}
+use Rattle.bpg_read_entries.proofs.Ahead.{Ahead, tags-fit, start, none-ahead, entry-ahead, past, more-ahead}
 use Rattle.bpg_parts.specs.declared.parts.EntryAt.{EntryAt}
 use Rattle.bpg_parts.specs.declared.bounds.BlockBounds.{BlockBounds}
 use Rattle.bpg_parts.specs.Entries.{entryAnswer}
@@ -37,37 +36,15 @@ use Rattle.bpg_cursor.specs.declared.cursor.Cursor.{Cursor}
 use Rattle.bpg_cursor.specs.declared.step.Step.{Step}
 use Rattle.bpg_cursor.specs.Cursors.{stepOf, stepAt, yielded, advanced, New, after, entryCount, EntriesInOrder}
 
--- ---- a region that ends with these entries, of which the first stands at p
-
-record Ahead (region : List ℕ) (p : ℕ) (es : List Extension) : Type 0 where
-  short : length region ≤ maxFile
-  left : drop p region ≡ blockBytes es
-  fit : All (λ (e : Extension). e .tag < 2 ^ 32) es
+-- ---- one step in a region that ends with these entries, of which the first stands at p
 
 module _ (region : List ℕ) (p : ℕ) where
-  -- the last was passed
   step-end : Ahead region p [] → stepAt region p ≡ stepOf p (error 2 p)
-  step-end a = ap (stepOf p) (past-end region p (a .short) (omega (arith, ap length (a .left), length-drop p region)))
+  step-end a = ap (stepOf p) (none-ahead region p a)
 
-  module _ (e : Extension) (es : List Extension) (a : Ahead region p (e ∷ es)) where
-    abbrev start : ℕ
-    start = p + length (ue7Bytes (e .tag)) + length (ue7Bytes (length (e .payload)))
-
-    size : length (extensionBytes e) ≡ length (ue7Bytes (e .tag)) + length (ue7Bytes (length (e .payload))) + length (e .payload)
-    size = simp length-append (omega arith)
-
-    small : length (e .payload) < 2 ^ 32
-    small = omega (arith, size, a .short, length-append (extensionBytes e) (blockBytes es), ap length (a .left), length-drop p region)
-
-    step-more : stepAt region p ≡ stepOf p (ok (decoded (record { tag = e .tag; size = length (e .payload) }) start (e .payload ++ blockBytes es)))
-    step-more = ap (stepOf p) (in-region region p (a .short) ∙ ap (entryStart p) (a .left) ∙ entry-written e (a .fit .0) small p (blockBytes es))
-
-    past : start + length (e .payload) ≡ p + length (extensionBytes e)
-    past = omega (arith, size)
-
-    more-ahead : Ahead region (p + length (extensionBytes e)) es
-    more-ahead =
-        record { short = a .short; left = rw (← drop-drop, a .left, drop-append-seam (extensionBytes e) (blockBytes es)); fit = a .fit .1 }
+  step-more : (e : Extension) (es : List Extension) (a : Ahead region p (e ∷ es))
+      → stepAt region p ≡ stepOf p (ok (decoded (record { tag = e .tag; size = length (e .payload) }) (start region p e es a) (e .payload ++ blockBytes es)))
+  step-more e es a = ap (stepOf p) (entry-ahead region p e es a)
 
 -- ---- a walk in it
 
@@ -156,10 +133,6 @@ module _ (f : List ℕ) (c : Cursor) (p : ℕ) (es : List Extension) (b : Begun 
       (λ h. nth-found (entriesAt p es) k (omega (arith, b .count, n))
       ∙ ap (λ (xs : List Entry). EntryAt.Found (getD xs k zeroEntry)) (sym (b .used))
       ∙ sym (answer-found f k h))
-
-tags-fit : (l : AnimationControl) (es : List Extension) → All (ExtensionRules l) es → All (λ (e : Extension). e .tag < 2 ^ 32) es
-tags-fit l [] h = tt
-tags-fit l (e ∷ es) h = (h .0 .tag, tags-fit l es (h .1))
 
 same-region : (k : ℕ) (c : Cursor) → after k c .region ≡ c .region
 unfolding after

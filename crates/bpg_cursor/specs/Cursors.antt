@@ -26,7 +26,7 @@ use Rattle.bpg_cursor.specs.declared.step.Step.{Step}
 abbrev pub stepOf : (p : ℕ) → Outcome (Decoded ℕ EntryHead) → Step
 stepOf p (ok x) =
     record {
-      answer = EntryAt.Found (record { tag = x .value .tag; payload = range (x .next) (x .value .size) });
+      answer = EntryAt.Found (record { tag = x .value .tag; payload = range (x .next) (x .value .size); «tag_offset» = p });
       next = bytePos (x .next + x .value .size);
     }
 stepOf p (error s o) = record { answer = EntryAt.Absent; next = bytePos p }

@@ -1,6 +1,6 @@
-// The bytes of a case of writing: a record's fields in the order of `Record`, each with the high byte first, a flag as a byte, so that
-// an entry has 12 bytes and a header 46; then the size of the buffer, the number of zeros that are the source, and, where that is 0,
-// the source.
+// The bytes of a case of writing: a record's fields in the order of `Record` but for its entries, each with the high byte first, a flag as a
+// byte, so that a header has 46 bytes; then the size of the buffer, the number of zeros that are the source, how many entries are given, these,
+// of 16 bytes each (the others are zero), and, where there are no zeros, the source.
 use bpg_format::Entry;
 use bpg_format::Header;
 use bpg_format::MAX_ENTRIES;
@@ -8,12 +8,15 @@ use bpg_format::Range;
 use bpg_format::Record;
 use bpg_format::zero_entry;
 ghost use Prim.Native.Nat.{_≤_};
+ghost use Rattle.bpg_format.specs.Limits.{maxEntries};
 
-const SIZE: usize = 319;
+const SIZE: usize = 127;
 
-const ZEROS: usize = 323;
+const ZEROS: usize = 131;
 
-pub(crate) const SOURCE: usize = 327;
+const GIVEN: usize = 135;
+
+const ENTRIES: usize = 136;
 
 // What is missing counts as 0.
 fn byte(s: &[u8], at: usize) -> u8 {
@@ -28,20 +31,20 @@ fn flag(s: &[u8], at: usize) -> bool {
 }
 
 fn two_bytes(s: &[u8], at: usize) -> u16
-    requires { ⌜ at ≤ 1000 ⌝ }
+    requires { ⌜ at ≤ 3000 ⌝ }
 {
     byte(s, at) as u16 * 256 + byte(s, at + 1) as u16
 }
 
 fn four_bytes(s: &[u8], at: usize) -> u32
-    requires { ⌜ at ≤ 900 ⌝ }
+    requires { ⌜ at ≤ 2900 ⌝ }
 {
     let high = two_bytes(s, at) as u32;
     high * 65_536 + two_bytes(s, at + 2) as u32
 }
 
 fn range(s: &[u8], at: usize) -> Range
-    requires { ⌜ at ≤ 800 ⌝ }
+    requires { ⌜ at ≤ 2800 ⌝ }
 {
     let start = four_bytes(s, at);
     let length = four_bytes(s, at + 4);
@@ -49,20 +52,38 @@ fn range(s: &[u8], at: usize) -> Range
 }
 
 fn entry(s: &[u8], at: usize) -> Entry
-    requires { ⌜ at ≤ 700 ⌝ }
+    requires { ⌜ at ≤ 2700 ⌝ }
 {
     let tag = four_bytes(s, at);
     let payload = range(s, at + 4);
-    Entry { tag, payload }
+    let tag_offset = four_bytes(s, at + 12);
+    Entry {
+        tag,
+        payload,
+        tag_offset,
+    }
 }
 
-fn entries(s: &[u8], at: usize) -> [Entry; MAX_ENTRIES]
-    requires { ⌜ at ≤ 100 ⌝ }
+// How many entries are given: no more than a record has.
+fn given(s: &[u8]) -> usize
+    ensures { λ r. ⌜ r ≤ maxEntries ⌝ }
+{
+    let count = byte(s, GIVEN) as usize;
+    if count <= MAX_ENTRIES {
+        return count;
+    }
+    MAX_ENTRIES
+}
+
+fn entries(s: &[u8], count: usize) -> [Entry; MAX_ENTRIES]
+    requires { ⌜ count ≤ maxEntries ⌝ }
 {
     let none = zero_entry();
     let mut all = [none; MAX_ENTRIES];
-    for k in 0..16 {
-        all[k] = entry(s, at + 12 * k);
+    let mut k: usize = 0;
+    while k < count {
+        all[k] = entry(s, ENTRIES + 16 * k);
+        k += 1;
     }
     all
 }
@@ -115,12 +136,12 @@ pub(crate) fn record(s: &[u8]) -> Record {
         picture_height: four_bytes(s, 12),
         explicit_length: flag(s, 16),
         entry_count: four_bytes(s, 17),
-        entries: entries(s, 21),
-        loop_count: two_bytes(s, 213),
-        frame_period_num: two_bytes(s, 215),
-        frame_period_den: two_bytes(s, 217),
-        headers: [header(s, 219), header(s, 265)],
-        data: range(s, 311),
+        entries: entries(s, given(s)),
+        loop_count: two_bytes(s, 21),
+        frame_period_num: two_bytes(s, 23),
+        frame_period_den: two_bytes(s, 25),
+        headers: [header(s, 27), header(s, 73)],
+        data: range(s, 119),
     }
 }
 
@@ -130,4 +151,9 @@ pub(crate) fn size(s: &[u8]) -> usize {
 
 pub(crate) fn zeros(s: &[u8]) -> usize {
     four_bytes(s, ZEROS) as usize
+}
+
+// Where the source begins.
+pub(crate) fn source(s: &[u8]) -> usize {
+    ENTRIES + 16 * given(s)
 }

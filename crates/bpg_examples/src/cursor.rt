@@ -1,4 +1,4 @@
-// Takes a cursor over the entries of a file and prints a line: the file, and 18 answers of the cursor, two more than a file has entries.
+// Takes a cursor over the entries of a file and prints a line: the file, and 66 answers of the cursor, two more than a file has entries.
 use crate::hex;
 use crate::text;
 use bpg_bytes::BytePos;
@@ -9,6 +9,7 @@ fn show_entry(entry: Entry) {
     text::show_number(b" ", entry.tag as u64);
     text::show_number(b"@", entry.payload.start as u64);
     text::show_number(b"+", entry.payload.length as u64);
+    text::show_number(b"#", entry.tag_offset as u64);
 }
 
 fn show_answer(answer: EntryAt) {
@@ -18,10 +19,10 @@ fn show_answer(answer: EntryAt) {
     }
 }
 
-// The 17 answers after the first, of a cursor that then stands at `at`.
+// The 65 answers after the first, of a cursor that then stands at `at`.
 fn show_rest(region: &[u8], at: BytePos) {
     let mut next = at;
-    let mut left: usize = 17;
+    let mut left: usize = 65;
     while 0 < left {
         let step = bpg_cursor::resume(region, next);
         let answer = step.answer;

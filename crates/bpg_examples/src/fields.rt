@@ -37,6 +37,7 @@ fn show_entry(index: usize, entry: Entry) {
     }
     text::show_number(b"", entry.tag as u64);
     show_range(b"@", payload);
+    text::show_number(b"#", entry.tag_offset as u64);
 }
 
 fn show_entries(record: Record) {

@@ -60,12 +60,12 @@ fn show_chunk(bytes: &mut [u8], begun: HexLine) -> HexLine {
     show_lines(&space[..n], bytes, begun)
 }
 
-// The input's first 32 chunks of 65,536 bytes: more than the cases take. The longest line has 17,188 bytes.
+// The input's first 40 chunks of 65,536 bytes: more than the cases take. The longest line has 17,253 bytes.
 fn main() {
     let mut space = io::large_buffer();
     let bytes: &mut [u8] = &mut space;
     let mut line = bpg_hex::none();
-    let mut left: usize = 32;
+    let mut left: usize = 40;
     while 0 < left {
         line = show_chunk(bytes, line);
         left -= 1;

@@ -4,7 +4,7 @@ use crate::text;
 
 pub(crate) fn show(file: &[u8], count: usize) {
     text::show(b" payloads");
-    for k in 0..17 {
+    for k in 0..65 {
         if k <= count {
             text::show(b" ");
             hex::show(bpg_parts::payload(file, k));

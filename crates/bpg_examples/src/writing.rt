@@ -56,7 +56,8 @@ fn show_zeros(record: Record, length: usize, size: usize) {
 
 // A case, see `case`.
 pub(crate) fn show(s: &[u8]) {
-    if s.len() < case::SOURCE {
+    let source = case::source(s);
+    if s.len() < source {
         return;
     }
     let record = case::record(s);
@@ -65,5 +66,5 @@ pub(crate) fn show(s: &[u8]) {
     if 0 < length {
         return show_zeros(record, length, size);
     }
-    show_record(record, &s[case::SOURCE..], size);
+    show_record(record, &s[source..], size);
 }

@@ -59,12 +59,14 @@ unfolding select
 found-when true e = refl
 found-when false e = refl
 
--- whether there is one, its tag and its range
+-- whether there is one, its tag, its range and its tag offset
 pub answered : (f : List ℕ) (k : ℕ) (x : EntryAt) → x ≡ entryAnswer f k
     → (isFound x ≡ ltb k (readFile f .«record» .«entry_count»))
-    × ((entryIn x .tag ≡ entryOf f k .tag) × ((entryIn x .payload .start ≡ entryOf f k .payload .start) × (entryIn x .payload .length ≡ entryOf f k .payload .length)))
+    × ((entryIn x .tag ≡ entryOf f k .tag)
+    × ((entryIn x .payload .start ≡ entryOf f k .payload .start)
+    × ((entryIn x .payload .length ≡ entryOf f k .payload .length) × (entryIn x .«tag_offset» ≡ entryOf f k .«tag_offset»))))
 answered f k x e =
     let i = entry-in f k x e in (
       ap isFound e ∙ found-when (ltb k (readFile f .«record» .«entry_count»)) (entryOf f k),
-      (ap (λ (y : Entry). y .tag) i, (ap (λ (y : Entry). y .payload .start) i, ap (λ (y : Entry). y .payload .length) i)),
+      (ap (λ (y : Entry). y .tag) i, (ap (λ (y : Entry). y .payload .start) i, (ap (λ (y : Entry). y .payload .length) i, ap (λ (y : Entry). y .«tag_offset») i))),
     )

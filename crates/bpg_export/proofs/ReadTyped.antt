@@ -5,6 +5,7 @@ use mathlib.Core.List.{List, [], _∷_, map}
 use Prim.Native.Nat.{ℕ, zero, suc, _+_, _≤_}
 use native.Mathlib.Omega.{arith}
 use lib.ListN.{length, replicate, take, drop, length-append, length-replicate, take-append-drop}
+use lib.Seq.{drop-at}
 use Rattle.bpg_codec.specs.Lawful.{All, Byte}
 use Rattle.bpg_codec.specs.Outcome.{Outcome, ok, error}
 use Rattle.bpg_format.specs.Limits.{maxEntries, maxFile}
@@ -15,11 +16,11 @@ use Rattle.bpg_format.specs.Content.{Extension, AnimationControl, Content, hasA
 use Rattle.bpg_format.specs.Syntax.{fileOf}
 use Rattle.bpg_format.specs.Rules.{isAnimation, hasAnimation, ExtensionRules, HeaderRules, Rules}
 use Rattle.bpg_format.specs.Read.{readContent}
-use Rattle.bpg_format.specs.Records.{blockStart, extensionOf, usedEntries, contentOf, answerOf, readFile, recordOf as contentRecord}
+use Rattle.bpg_format.specs.Records.{entriesAt, blockStart, extensionOf, usedEntries, contentOf, answerOf, readFile, recordOf as contentRecord}
 use Rattle.bpg_format.specs.Write.{Writable}
 use Rattle.bpg_codec.proofs.Tokens.{all-append}
 use Rattle.bpg_format.proofs.RuleLaws.{bool-apart, by-tag}
-use Rattle.bpg_format.proofs.RecordLaws.{entries-length, content-record}
+use Rattle.bpg_format.proofs.RecordLaws.{used-entries, entries-length, content-record}
 use Rattle.bpg_format.proofs.ReadingLaws.{read-is}
 use Rattle.bpg_format.proofs.Writing.{record-writable}
 use Rattle.bpg_export_list.specs.Numbers.{entryNumbers}
@@ -51,15 +52,24 @@ loop-typed p (e ∷ es) a h = by-tag (isAnimation e) (λ w. let d = a .0 .contro
 
 -- ---- the entries
 
+-- a tag stands before its payload
+tags-before : (p : ℕ) (es : List Extension) → All (λ (e : Entry). e .«tag_offset» ≤ e .payload .start) (entriesAt p es)
+tags-before p [] = tt
+tags-before p (e ∷ es) = (omega arith, tags-before _ es)
+
 module _ (file : List ℕ) (short : length file ≤ maxFile) (p : AnimationControl) where
   used-typed : (es : List Entry) → All (ExtensionRules p) (map (extensionOf file) es) → All (λ (e : Entry). e .payload .start + e .payload .length ≤ length file) es
-      → All (λ (e : Entry). OfBits 32 (entryNumbers e)) es
-  used-typed [] a b = tt
-  used-typed (e ∷ es) a b = (omega arith, used-typed es (a .1) (b .1))
+      → All (λ (e : Entry). e .«tag_offset» ≤ e .payload .start) es → All (λ (e : Entry). OfBits 32 (entryNumbers e)) es
+  used-typed [] a b d = tt
+  used-typed (e ∷ es) a b d = (omega arith, used-typed es (a .1) (b .1) (d .1))
 
 unused-typed : (es : List Entry) → All (λ (e : Entry). e ≡ zeroEntry) es → All (λ (e : Entry). OfBits 32 (entryNumbers e)) es
 unused-typed [] a = tt
 unused-typed (e ∷ es) a = (rw (a .0) (omega arith), unused-typed es (a .1))
+
+zeros : (n : ℕ) → All (λ (e : Entry). e ≡ zeroEntry) (replicate n zeroEntry)
+zeros zero = tt
+zeros (suc n) = (refl, zeros n)
 
 -- ---- the record
 
@@ -71,18 +81,27 @@ module _ (c : Content) (r : Rules c) where
   unfolding contentOf
   extensions-are = ap (λ (d : Content). d .extensions) (content-record c r)
 
+  tags-first : All (λ (e : Entry). e .«tag_offset» ≤ e .payload .start) (usedEntries (contentRecord c))
+  unfolding contentRecord
+  tags-first =
+      subst (All (λ (e : Entry). e .«tag_offset» ≤ e .payload .start)) (sym (used-entries (blockStart c) (c .extensions))) (tags-before (blockStart c) (c .extensions))
+
+  unused-zero : All (λ (e : Entry). e ≡ zeroEntry) (drop (contentRecord c .«entry_count») (contentRecord c .entries))
+  unfolding contentRecord
+  unused-zero = rw (drop-at (entriesAt (blockStart c) (c .extensions)) _ (length (c .extensions)) (entries-length (blockStart c) (c .extensions))) (search zeros)
+
   entries-typed : All (λ (e : Entry). OfBits 32 (entryNumbers e)) (contentRecord c .entries)
   entries-typed =
       let n = contentRecord c .«entry_count» in
       let es = contentRecord c .entries in
       subst (All (λ (e : Entry). OfBits 32 (entryNumbers e))) (take-append-drop n es)
       (all-append (λ (e : Entry). OfBits 32 (entryNumbers e)) (take n es) (drop n es)
-      (used-typed (fileOf c) (r .size) (c .control) (take n es) (subst (All (ExtensionRules (c .control))) (sym extensions-are) (r .entries)) (writable .payloads))
-      (unused-typed (drop n es) (writable .unused)))
+      (used-typed (fileOf c) (r .size) (c .control) (take n es) (subst (All (ExtensionRules (c .control))) (sym extensions-are) (r .entries)) (writable .payloads) tags-first)
+      (unused-typed (drop n es) unused-zero))
 
-  sixteen : length (contentRecord c .entries) ≡ maxEntries
+  whole : length (contentRecord c .entries) ≡ maxEntries
   unfolding contentRecord
-  sixteen = simp (length-append, length-replicate) (omega (arith, entries-length (blockStart c) (c .extensions), r .entry-limit))
+  whole = simp (length-append, length-replicate) (omega (arith, entries-length (blockStart c) (c .extensions), r .entry-limit))
 
   loop-small : LoopTyped (c .control)
   loop-small = by-tag (hasAnimation (c .extensions)) (loop-typed (c .control) (c .extensions) (r .entries)) (λ e. rw (r .no-animation e) (omega arith))
@@ -97,7 +116,7 @@ module _ (c : Content) (r : Rules c) where
   content-typed =
       let color = header-typed (bitDepth (c .flags)) (omega arith) (c .colorHeader) (r .color-header) in
       let range = writable .data-range in
-      search (entries-typed, sixteen, loop-small, alpha-typed, arith)
+      search (entries-typed, whole, loop-small, alpha-typed, arith)
 
 zeros-typed : (n : ℕ) → All (λ (e : Entry). OfBits 32 (entryNumbers e)) (replicate n zeroEntry)
 zeros-typed zero = tt
@@ -109,16 +128,12 @@ refused-typed =
       flags = omega arith;
       size = omega arith;
       entries = zeros-typed maxEntries;
-      sixteen = refl;
+      whole = refl;
       control = omega arith;
       headers = (zero-typed, (zero-typed, tt));
       two = refl;
       data-range = omega arith;
     }
-
-zeros : (n : ℕ) → All (λ (e : Entry). e ≡ zeroEntry) (replicate n zeroEntry)
-zeros zero = tt
-zeros (suc n) = (refl, zeros n)
 
 pub read-listable : (f : List ℕ) → All Byte f → Listable (readFile f .«record»)
 unfolding readFile
@@ -127,5 +142,5 @@ read-listable f bytes = by (readContent f) refl
     by : (m : Outcome Content) → readContent f ≡ m → Listable (answerOf m .«record»)
     by (ok c) e =
         let r = read-is f bytes c e .0 in
-        record { typed = content-typed c r; few = writable c r .few; unused = writable c r .unused }
+        record { typed = content-typed c r; few = writable c r .few; unused = unused-zero c r }
     by (error s o) e = record { typed = refused-typed; few = omega arith; unused = zeros maxEntries }

@@ -36,7 +36,7 @@ pub extern "C" fn bpg_read(file: &[u8], numbers: &mut [u64], offset: &mut usize)
     heads::read_list(file, &none, false, numbers, offset)
 }
 
-// Tag and range of entry k, from 0; false and zeros where there is none. A refused file has no entry.
+// Tag, range and tag offset of entry k, from 0; false and zeros where there is none. A refused file has no entry.
 #[no_mangle]
 pub extern "C" fn bpg_entry(
     file: &[u8],
@@ -44,23 +44,27 @@ pub extern "C" fn bpg_entry(
     tag: &mut u32,
     start: &mut u32,
     length: &mut u32,
+    tag_offset: &mut u32,
 ) -> bool
     ensures { λ r. ⌜ r ≡ ltb k (readFile (now (file .entry)) .«record» .«entry_count») ⌝ }
     ensures { λ _. ⌜ now (tag .exit) ≡ entryOf (now (file .entry)) k .tag ⌝ }
     ensures { λ _. ⌜ now (start .exit) ≡ entryOf (now (file .entry)) k .payload .start ⌝ }
     ensures { λ _. ⌜ now (length .exit) ≡ entryOf (now (file .entry)) k .payload .length ⌝ }
+    ensures { λ _. ⌜ now («tag_offset» .exit) ≡ entryOf (now (file .entry)) k .«tag_offset» ⌝ }
 {
     match bpg_parts::entry_at(file, k) {
         EntryAt::Absent => {
             *tag = 0;
             *start = 0;
             *length = 0;
+            *tag_offset = 0;
             false
         }
         EntryAt::Found(entry) => {
             *tag = entry.tag;
             *start = entry.payload.start;
             *length = entry.payload.length;
+            *tag_offset = entry.tag_offset;
             true
         }
     }

@@ -45,9 +45,9 @@ header-length h n = omega (arith, length-map (h .«range_flags») bit)
 entries-append : (a b : List Entry) → entriesNumbers (a ++ b) ≡ entriesNumbers a ++ entriesNumbers b
 unfolding entriesNumbers
 entries-append [] b = refl
-entries-append (e ∷ a) b = ap (λ (l : List ℕ). e .tag ∷ e .payload .start ∷ e .payload .length ∷ l) (entries-append a b)
+entries-append (e ∷ a) b = ap (λ (l : List ℕ). e .tag ∷ e .payload .start ∷ e .payload .length ∷ e .«tag_offset» ∷ l) (entries-append a b)
 
-pub entries-length : (es : List Entry) → length (entriesNumbers es) ≡ 3 * length es
+pub entries-length : (es : List Entry) → length (entriesNumbers es) ≡ 4 * length es
 unfolding entriesNumbers
 entries-length [] = refl
 entries-length (e ∷ es) = omega (arith, entries-length es)
@@ -85,8 +85,8 @@ module _ (out : List ℕ) where
 
   -- one more entry
   module _ (es : List Entry) (used : ℕ) (few : used ≤ length es) (long : listLength used ≤ length out) where
-    pub first-length : (k : ℕ) → k ≤ used → length (entriesNumbers (take k es)) ≡ 3 * k
-    first-length k h = entries-length (take k es) ∙ ap (λ (n : ℕ). 3 * n) (length-take-le k es (omega arith))
+    pub first-length : (k : ℕ) → k ≤ used → length (entriesNumbers (take k es)) ≡ 4 * k
+    first-length k h = entries-length (take k es) ∙ ap (λ (n : ℕ). 4 * n) (length-take-le k es (omega arith))
 
     pub entry-written : (k : ℕ) (d : Entry) (o p : List ℕ) → k < used → o ≡ written out fixedLength (entriesNumbers (take k es))
         → p ≡ written o (listLength k) (entryNumbers (getD es k d)) → p ≡ written out fixedLength (entriesNumbers (take (k + 1) es))

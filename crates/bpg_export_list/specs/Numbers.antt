@@ -33,9 +33,9 @@ countPlace = codedStart + 2
 abbrev pub fixedLength : ℕ
 fixedLength = countPlace + 1
 
--- and then three an entry: so many numbers with n entries
+-- and then four an entry: so many numbers with n entries
 abbrev pub listLength : (n : ℕ) → ℕ
-listLength n = fixedLength + 3 * n
+listLength n = fixedLength + 4 * n
 
 -- 0 to 10: bytes 4 and 5, the size, the data length written out
 abbrev pub headNumbers : Record → List ℕ
@@ -74,9 +74,9 @@ unfoldable pub fixedNumbers : Record → (codedWidth codedHeight : ℕ) → List
 fixedNumbers r w h =
     headNumbers r ++ (animationNumbers r ++ (headersNumbers (r .headers) ++ (rangeNumbers (r .«data») ++ (w ∷ h ∷ r .«entry_count» ∷ []))))
 
--- from fixedLength, three an entry
+-- from fixedLength, four an entry
 abbrev pub entryNumbers : Entry → List ℕ
-entryNumbers e = e .tag ∷ rangeNumbers (e .payload)
+entryNumbers e = e .tag ∷ e .payload .start ∷ e .payload .length ∷ e .«tag_offset» ∷ []
 
 unfoldable pub entriesNumbers : List Entry → List ℕ
 entriesNumbers [] = []

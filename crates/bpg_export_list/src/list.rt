@@ -193,8 +193,9 @@ fn put_entries(out: &mut [u64], record: Record, used: usize)
             entry.tag as u64,
             entry.payload.start as u64,
             entry.payload.length as u64,
+            entry.tag_offset as u64,
         ];
-        put(out, FIXED + 3 * k, &part);
+        put(out, FIXED + 4 * k, &part);
         k += 1;
     }
 }
@@ -209,7 +210,7 @@ pub fn write(reading: Reading, numbers: &mut [u64]) -> Written
     }
     let found = reading.record;
     let used = used_entries(found);
-    if numbers.len() < FIXED + 3 * used {
+    if numbers.len() < FIXED + 4 * used {
         return written_refused(20, 0);
     }
     put_fixed(numbers, found, reading.coded_width, reading.coded_height);
@@ -217,6 +218,6 @@ pub fn write(reading: Reading, numbers: &mut [u64]) -> Written
     Written {
         status: 0,
         offset: 0,
-        count: FIXED + 3 * used,
+        count: FIXED + 4 * used,
     }
 }

@@ -18,5 +18,6 @@ pub mod Canonical
 pub mod Requirements
 pub mod WritingRefusals
 pub mod Sizes
+pub mod TagOffsets
 pub mod Examples
 pub mod WrongAnswers

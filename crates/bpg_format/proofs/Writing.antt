@@ -26,7 +26,7 @@ use Rattle.bpg_format.specs.Rules.{HeaderRules, hasAnimation, noAnimatio
 use Rattle.bpg_format.specs.Tests.{colorSpaceAllowed, dataAllowed}
 use Rattle.bpg_format.specs.Records.{entriesAt, blockStart, recordOf, extensionOf, usedEntries, contentOf}
 use Rattle.bpg_format.specs.Write.{inSource, entriesInSource, rangesInSource, isZero, zeroEntries, unusedZero, absentZero, sameAnimation, consistent, checkEntries}
-use Rattle.bpg_format.specs.Write.{checkHeader, checkContent, checkRecord, sizedFile, writeOutcome, Typed, Writable}
+use Rattle.bpg_format.specs.Write.{checkHeader, checkContent, checkRecord, sizedFile, writeOutcome, Typed, ZeroEntry, Writable}
 use Rattle.bpg_format.proofs.HeaderRuleLaws.{unless-full, passed, by-flag}
 use Rattle.bpg_format.proofs.DataRuleLaws.{data-sound, data-full}
 use Rattle.bpg_format.proofs.RuleLaws.{bool-apart, by-tag, flags-sound, flags-full, entry-size}
@@ -124,18 +124,18 @@ in-source-full : (source : List ℕ) (es : List Entry) → All (λ (e : Entry). 
 in-source-full source [] h = refl
 in-source-full source (e ∷ es) h = rw (le-leb _ _ (h .0)) (in-source-full source es (h .1))
 
-zero-sound : (es : List Entry) → T (zeroEntries es) → All (λ (e : Entry). e ≡ zeroEntry) es
+zero-sound : (es : List Entry) → T (zeroEntries es) → All ZeroEntry es
 zero-sound [] t = tt
 zero-sound (e ∷ es) t = (same e (and-left (isZero e) _ t), zero-sound es (and-right (isZero e) _ t))
   where
-    same : (e : Entry) → T (isZero e) → e ≡ zeroEntry
+    same : (e : Entry) → T (isZero e) → ZeroEntry e
     same e t =
         let q : (e .tag ≡ 0) × (e .payload .start ≡ 0) × (e .payload .length ≡ 0) = search passed in
-        λ z. record { tag = q .0 z; payload = record { start = q .1 z; length = q .2 z } }
+        (q .0, λ z. record { start = q .1 z; length = q .2 z })
 
-zero-full : (es : List Entry) → All (λ (e : Entry). e ≡ zeroEntry) es → zeroEntries es ≡ true
+zero-full : (es : List Entry) → All ZeroEntry es → zeroEntries es ≡ true
 zero-full [] h = refl
-zero-full (e ∷ es) h = rw (h .0) (zero-full es (h .1))
+zero-full (e ∷ es) h = rw (h .0 .0, h .0 .1) (zero-full es (h .1))
 
 typed-extensions : (source : List ℕ) → All Byte source → (es : List Entry) → All (λ (e : Entry). e .tag < 2 ^ 32) es → All TypedExtension (map (extensionOf source) es)
 typed-extensions source h [] t = tt
@@ -193,8 +193,8 @@ entries-within (x ∷ es) p n h =
     let whole = entry-size x es in
     (omega arith, entries-within es (p + length tag + length size + length (x .payload)) n (omega arith))
 
-padding-zero : (n : ℕ) → All (λ (e : Entry). e ≡ zeroEntry) (replicate n zeroEntry)
-padding-zero n = all-replicate (λ (e : Entry). e ≡ zeroEntry) n zeroEntry refl
+padding-zero : (n : ℕ) → All ZeroEntry (replicate n zeroEntry)
+padding-zero n = all-replicate ZeroEntry n zeroEntry (refl, refl)
 
 pub record-writable : (c : Content) → Rules c → (capacity : ℕ) → length (fileOf c) ≤ capacity → Writable capacity (recordOf c) (fileOf c)
 unfolding recordOf

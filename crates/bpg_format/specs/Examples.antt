@@ -119,7 +119,7 @@ readingA = readingOf (recordWith false [] 0 0 14)
 
 -- loop forever, period 1/10, payload at 13, 3 bytes
 abbrev pub readingC : Reading
-readingC = readingOf (recordWith true (record { tag = 5; payload = range 13 3 } ∷ []) 1 10 20)
+readingC = readingOf (recordWith true (record { tag = 5; payload = range 13 3; «tag_offset» = 11 } ∷ []) 1 10 20)
 
 -- ---- the table
 

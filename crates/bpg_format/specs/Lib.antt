@@ -14,3 +14,4 @@ pub mod Examples
 -- for proofs and inner contracts: a reader of the format need not open it
 pub mod FileCodec
 pub mod Requirements
+pub mod TagOffsets

@@ -19,12 +19,12 @@ use Rattle.bpg_format.specs.Read.{readContent}
 
 -- ---- from a content to its record: every range follows from the lengths before it
 
--- the entries of a block whose first entry stands at p
+-- the entries of a block whose first entry stands at p: its tag begins there, and that of each later one where the payload before it ends
 abbrev pub entriesAt : (p : ℕ) → List Extension → List Entry
 entriesAt p [] = []
 entriesAt p (e ∷ es) =
     let start = p + length (ue7Bytes (e .tag)) + length (ue7Bytes (length (e .payload))) in
-    record { tag = e .tag; payload = range start (length (e .payload)) } ∷ entriesAt (start + length (e .payload)) es
+    record { tag = e .tag; payload = range start (length (e .payload)); «tag_offset» = p } ∷ entriesAt (start + length (e .payload)) es
 
 -- unused entries are zero
 abbrev pub padEntries : List Entry → List Entry
@@ -63,6 +63,30 @@ recordOf c =
       «frame_period_den» = c .control .periodDen;
       headers = c .alphaHeader ∷ c .colorHeader ∷ [];
       «data» = range (dataStart c) (length (c .hevcData));
+    }
+
+-- a record with these entries
+abbrev pub withEntries : Record → List Entry → Record
+withEntries r es =
+    record {
+      «pixel_format» = r .«pixel_format»;
+      «alpha1_flag» = r .«alpha1_flag»;
+      «bit_depth_minus_8» = r .«bit_depth_minus_8»;
+      «color_space» = r .«color_space»;
+      «extension_present_flag» = r .«extension_present_flag»;
+      «alpha2_flag» = r .«alpha2_flag»;
+      «limited_range_flag» = r .«limited_range_flag»;
+      «animation_flag» = r .«animation_flag»;
+      «picture_width» = r .«picture_width»;
+      «picture_height» = r .«picture_height»;
+      «explicit_length» = r .«explicit_length»;
+      «entry_count» = r .«entry_count»;
+      entries = es;
+      «loop_count» = r .«loop_count»;
+      «frame_period_num» = r .«frame_period_num»;
+      «frame_period_den» = r .«frame_period_den»;
+      headers = r .headers;
+      «data» = r .«data»;
     }
 
 -- ---- from a record over its source to its content: the bytes in place of the ranges

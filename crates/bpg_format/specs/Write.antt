@@ -17,7 +17,7 @@ use Rattle.bpg_format.specs.declared.record.Entry.{Entry}
 use Rattle.bpg_format.specs.declared.record.Header.{Header}
 use Rattle.bpg_format.specs.declared.record.Record.{Record}
 use Rattle.bpg_format.specs.declared.answer.Written.{Written}
-use Rattle.bpg_format.specs.Zero.{zeroEntry, zeroHeader, refusedWritten}
+use Rattle.bpg_format.specs.Zero.{range, zeroHeader, refusedWritten}
 use Rattle.bpg_format.specs.Content.{isEmpty, Extension, AnimationControl, Content, hasAlpha, bitDepth}
 use Rattle.bpg_format.specs.Syntax.{fileOf}
 use Rattle.bpg_format.specs.Rules.{isAnimation, hasAnimation, noAnimation, Rules}
@@ -39,6 +39,7 @@ rangesInSource source r = entriesInSource source (usedEntries r) && inSource sou
 
 -- ---- refusal 19: unused or absent field not zero, presence flags that contradict
 
+-- an unused entry's tag offset is not looked at (request 11/13)
 abbrev pub isZero : Entry → Bool
 isZero e = eqb (e .tag) 0 && (eqb (e .payload .start) 0 && eqb (e .payload .length) 0)
 
@@ -202,12 +203,16 @@ pub record Typed (r : Record) : Type 0 where
   pub alpha-nine : length (getD (r .headers) 0 zeroHeader .«range_flags») ≡ 9
   pub color-nine : length (getD (r .headers) 1 zeroHeader .«range_flags») ≡ 9
 
+-- an entry that is zero, whatever its tag offset is
+abbrev pub ZeroEntry : Entry → Type 0
+ZeroEntry e = (e .tag ≡ 0) × (e .payload ≡ range 0 0)
+
 -- a record that is written: its count is within the limit, the ranges in use lie in the source, unused entries are zero, its content keeps
 -- the rules (absent fields are zero among them), and the buffer holds its file
 pub record Writable (capacity : ℕ) (r : Record) (source : List ℕ) : Type 0 where
   pub few : r .«entry_count» ≤ maxEntries
   pub payloads : All (λ (e : Entry). e .payload .start + e .payload .length ≤ length source) (usedEntries r)
   pub data-range : r .«data» .start + r .«data» .length ≤ length source
-  pub unused : All (λ (e : Entry). e ≡ zeroEntry) (drop (r .«entry_count») (r .entries))
+  pub unused : All ZeroEntry (drop (r .«entry_count») (r .entries))
   pub rules : Rules (contentOf r source)
   pub holds : length (fileOf (contentOf r source)) ≤ capacity

@@ -14,7 +14,7 @@ abbrev pub range : (start length : ℕ) → Range
 range s n = record { start = s; length = n }
 
 abbrev pub zeroEntry : Entry
-zeroEntry = record { tag = 0; payload = range 0 0 }
+zeroEntry = record { tag = 0; payload = range 0 0; «tag_offset» = 0 }
 
 abbrev pub zeroHeader : Header
 zeroHeader =

@@ -5,7 +5,7 @@ ghost use lib.Dec.{leb, eqb};
 ghost use Rattle.bpg_format.specs.Zero.{zeroHeader, zeroEntry, zeroRecord};
 
 // House rules of document 01.
-pub const MAX_ENTRIES: usize = 16;
+pub const MAX_ENTRIES: usize = 64;
 
 pub const MAX_FILE: usize = 16_777_216;
 
@@ -15,10 +15,11 @@ pub struct Range {
     pub length: u32,
 }
 
-// An entry of the extension block: its tag, and where its payload lies.
+// An entry of the extension block: its tag, where its payload lies, and where its tag begins. The writer pays no heed to the last.
 pub struct Entry {
     pub tag: u32,
     pub payload: Range,
+    pub tag_offset: u32,
 }
 
 // A HEVC header. Fields that a flag leaves out are zero.
@@ -90,6 +91,7 @@ pub fn zero_entry() -> Entry
             start: 0,
             length: 0,
         },
+        tag_offset: 0,
     }
 }
 

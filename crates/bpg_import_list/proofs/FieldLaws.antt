@@ -42,7 +42,7 @@ module _ (l : List ℕ) (n : ℕ) where
 pub entries-from : (l : List ℕ) (n i m : ℕ) → listEntries l (n + i) m ≡ listEntries (drop n l) i m
 unfolding listEntries
 entries-from l n i zero = refl
-entries-from l n i (suc m) = let ih = entries-from l n (i + 3) m in simp (getD-drop, add-assoc, ih)
+entries-from l n i (suc m) = let ih = entries-from l n (i + 4) m in simp (getD-drop, add-assoc, ih)
 
 -- ---- the parts of a list give the parts of the record
 
@@ -50,7 +50,7 @@ pub entries-back : (es : List Entry) (rest : List ℕ) → All (λ (e : Entry). 
 unfolding listEntries entriesNumbers
 entries-back [] rest a = refl
 entries-back (e ∷ es) rest a =
-    let tail = entries-from (entriesNumbers (e ∷ es) ++ rest) 3 0 (length es) ∙ entries-back es rest (a .1) in
+    let tail = entries-from (entriesNumbers (e ∷ es) ++ rest) 4 0 (length es) ∙ entries-back es rest (a .1) in
     search (mod-eq-of-lt, tail)
 
 zeros : (l : List Entry) → All (λ (e : Entry). e ≡ zeroEntry) l → l ≡ replicate (length l) zeroEntry

@@ -108,7 +108,12 @@ pub words-fit : (es : List Entry) → All (λ (e : Entry). OfBits 32 (entryNumbe
 unfolding words entriesNumbers
 words-fit [] a = refl
 words-fit (e ∷ es) a =
-    rw (le-leb (e .tag) word (omega (arith, a .0)), le-leb (e .payload .start) word (omega (arith, a .0)), le-leb (e .payload .length) word (omega (arith, a .0)))
+    rw (
+      le-leb (e .tag) word (omega (arith, a .0)),
+      le-leb (e .payload .start) word (omega (arith, a .0)),
+      le-leb (e .payload .length) word (omega (arith, a .0)),
+      le-leb (e .«tag_offset») word (omega (arith, a .0)),
+    )
     (words-fit es (a .1))
 
 -- ---- numbers cut to their fields, which are the record's
@@ -152,21 +157,26 @@ header-cut l = simp (getD-drop, flag-cut)
 pub range-cut : (l : List ℕ) → rangeNumbers (rangeAt l 0) ≡ cut rangeFields l
 range-cut l = simp getD-drop
 
-three : {a b c x y z : ℕ} {l m : List ℕ} → a ≡ x → b ≡ y → c ≡ z → l ≡ m → _≡_ {A = List ℕ} (a ∷ b ∷ c ∷ l) (x ∷ y ∷ z ∷ m)
-three p q r s = λ i. p i ∷ q i ∷ r i ∷ s i
+word-kept : (x : ℕ) → leb x word ≡ true → x % 2 ^ 32 ≡ x
+word-kept x e = mod-eq-of-lt (omega (arith, le x word e))
 
-pub entries-cut : (n : ℕ) (l : List ℕ) → 3 * n ≤ length l → words (take (3 * n) l) ≡ true → entriesNumbers (listEntries l 0 n) ≡ take (3 * n) l
+four : {a b c d w x y z : ℕ} {l m : List ℕ} → a ≡ w → b ≡ x → c ≡ y → d ≡ z → l ≡ m → _≡_ {A = List ℕ} (a ∷ b ∷ c ∷ d ∷ l) (w ∷ x ∷ y ∷ z ∷ m)
+four p q r s t = λ i. p i ∷ q i ∷ r i ∷ s i ∷ t i
+
+pub entries-cut : (n : ℕ) (l : List ℕ) → 4 * n ≤ length l → words (take (4 * n) l) ≡ true → entriesNumbers (listEntries l 0 n) ≡ take (4 * n) l
 unfolding words entriesNumbers listEntries
 entries-cut zero l h w = refl
 entries-cut (suc n) [] h w = absurd (omega arith)
 entries-cut (suc n) (x ∷ []) h w = absurd (omega arith)
 entries-cut (suc n) (x ∷ y ∷ []) h w = absurd (omega arith)
-entries-cut (suc n) (x ∷ y ∷ z ∷ l) h w =
-    let k : 3 * suc n ≡ suc (suc (suc (3 * n))) = omega arith in
-    let v = ap (λ (i : ℕ). words (take i (x ∷ y ∷ z ∷ l))) (sym k) ∙ w in
+entries-cut (suc n) (x ∷ y ∷ z ∷ []) h w = absurd (omega arith)
+entries-cut (suc n) (x ∷ y ∷ z ∷ u ∷ l) h w =
+    let all = x ∷ y ∷ z ∷ u ∷ l in
+    let k : 4 * suc n ≡ suc (suc (suc (suc (4 * n)))) = omega arith in
+    let v = ap (λ (i : ℕ). words (take i all)) (sym k) ∙ w in
     let a = and-true (leb x word) _ v in
     let b = and-true (leb y word) _ (a .1) in
-    let c = and-true (leb z word) (words (take (3 * n) l)) (b .1) in
-    let tail = ap entriesNumbers (entries-from (x ∷ y ∷ z ∷ l) 3 0 n) ∙ entries-cut n l (omega arith) (c .1) in
-    three (mod-eq-of-lt (omega (arith, le x word (a .0)))) (mod-eq-of-lt (omega (arith, le y word (b .0)))) (mod-eq-of-lt (omega (arith, le z word (c .0)))) tail
-    ∙ ap (λ (i : ℕ). take i (x ∷ y ∷ z ∷ l)) (sym k)
+    let c = and-true (leb z word) _ (b .1) in
+    let d = and-true (leb u word) (words (take (4 * n) l)) (c .1) in
+    let tail = ap entriesNumbers (entries-from all 4 0 n) ∙ entries-cut n l (omega arith) (d .1) in
+    four (word-kept x (a .0)) (word-kept y (b .0)) (word-kept z (c .0)) (word-kept u (d .0)) tail ∙ ap (λ (i : ℕ). take i all) (sym k)

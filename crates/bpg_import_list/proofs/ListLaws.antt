@@ -41,17 +41,17 @@ module _ (l : List ℕ) (k : ℕ) where
 
 -- ---- the entries of a list
 
-pub entries-more : (l : List ℕ) (at k : ℕ) → listEntries l at (suc k) ≡ listEntries l at k ++ (entryAt l (at + 3 * k) ∷ [])
+pub entries-more : (l : List ℕ) (at k : ℕ) → listEntries l at (suc k) ≡ listEntries l at k ++ (entryAt l (at + 4 * k) ∷ [])
 unfolding listEntries
 entries-more l at zero = ap (λ (n : ℕ). entryAt l n ∷ []) (omega arith)
 entries-more l at (suc k) =
-    let n : at + 3 + 3 * k ≡ at + 3 * suc k = omega arith in
-    ap (λ (es : List Entry). entryAt l at ∷ es) (entries-more l (at + 3) k ∙ ap (λ (m : ℕ). listEntries l (at + 3) k ++ (entryAt l m ∷ [])) n)
+    let n : at + 4 + 4 * k ≡ at + 4 * suc k = omega arith in
+    ap (λ (es : List Entry). entryAt l at ∷ es) (entries-more l (at + 4) k ∙ ap (λ (m : ℕ). listEntries l (at + 4) k ++ (entryAt l m ∷ [])) n)
 
 pub entries-count : (l : List ℕ) (at n : ℕ) → length (listEntries l at n) ≡ n
 unfolding listEntries
 entries-count l at zero = refl
-entries-count l at (suc n) = ap suc (entries-count l (at + 3) n)
+entries-count l at (suc n) = ap suc (entries-count l (at + 4) n)
 
 pub pad-length : (es : List Entry) → length es ≤ maxEntries → length (padEntries es) ≡ maxEntries
 pad-length es h = omega (arith, length-append es (replicate (maxEntries - length es) zeroEntry), length-replicate (maxEntries - length es) zeroEntry)

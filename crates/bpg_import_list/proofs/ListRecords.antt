@@ -45,7 +45,7 @@ byte-fits n = omega arith
 entries-typed : (l : List ℕ) (k n : ℕ) → All (λ (e : Entry). OfBits 32 (entryNumbers e)) (listEntries l k n)
 unfolding listEntries
 entries-typed l k zero = tt
-entries-typed l k (suc n) = ((word-fits _, (word-fits _, (word-fits _, tt))), entries-typed l (k + 3) n)
+entries-typed l k (suc n) = ((word-fits _, (word-fits _, (word-fits _, (word-fits _, tt)))), entries-typed l (k + 4) n)
 
 zeros-typed : (n : ℕ) → All (λ (e : Entry). OfBits 32 (entryNumbers e)) (replicate n zeroEntry)
 zeros-typed zero = tt
@@ -84,7 +84,7 @@ module _ (l : List ℕ) (g : Gives l) where
         size = (word-fits _, (word-fits _, (word-fits _, tt)));
         entries = all-append (λ (e : Entry). OfBits 32 (entryNumbers e)) es (replicate (maxEntries - length es) zeroEntry)
             (entries-typed l fixedLength (countOf l)) (zeros-typed (maxEntries - length es));
-        sixteen = pad-length es (omega (arith, counted, g .few));
+        whole = pad-length es (omega (arith, counted, g .few));
         control = (short-fits _, (short-fits _, (short-fits _, tt)));
         headers = (header-typed l alphaStart, (header-typed l colorStart, tt));
         two = refl;
@@ -138,13 +138,13 @@ module _ (l : List ℕ) (g : Gives l) where
   height = getD l (codedStart + 1) 0
 
   abbrev rest : List ℕ
-  rest = drop (3 * countOf l) (drop fixedLength l)
+  rest = drop (4 * countOf l) (drop fixedLength l)
 
   entries-are : entriesNumbers (usedEntries (listRecord l)) ++ rest ≡ drop fixedLength l
   entries-are =
       let n = countOf l in
       let e = entries-cut n (drop fixedLength l) (omega (arith, length-drop fixedLength l, g .long)) (g .entries-fit) in
-      ap (λ (x : List Entry). entriesNumbers x ++ rest) (used-are ∙ entries-from l fixedLength 0 n) ∙ ap (λ (x : List ℕ). x ++ rest) e ∙ take-append-drop (3 * n) (drop fixedLength l)
+      ap (λ (x : List Entry). entriesNumbers x ++ rest) (used-are ∙ entries-from l fixedLength 0 n) ∙ ap (λ (x : List ℕ). x ++ rest) e ∙ take-append-drop (4 * n) (drop fixedLength l)
 
   -- the coded size, the number of entries, and the entries
   last-is : (width ∷ height ∷ countOf l ∷ (entriesNumbers (usedEntries (listRecord l)) ++ rest)) ≡ drop codedStart l

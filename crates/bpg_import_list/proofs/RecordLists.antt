@@ -66,14 +66,14 @@ module _ (r : Record) (w h : ℕ) (rest : List ℕ) (t : Listable r) where
   counted = ap (λ (n : ℕ). n % 2 ^ 32) (number-from all dataStart (rangeNumbers (r .«data») ++ last) 4 past-headers) ∙ mod-eq-of-lt (t .typed .size .1 .1 .0)
 
   used-count : length (usedEntries r) ≡ r .«entry_count»
-  used-count = length-take-le (r .«entry_count») (r .entries) (omega (arith, t .few, t .typed .sixteen))
+  used-count = length-take-le (r .«entry_count») (r .entries) (omega (arith, t .few, t .typed .whole))
 
   entries-are : padEntries (listEntries all fixedLength (countOf all)) ≡ r .entries
   entries-are =
       ap padEntries
       (ap (listEntries all fixedLength) (counted ∙ sym used-count) ∙ entries-from all fixedLength 0 (length (usedEntries r))
       ∙ ap (λ (l : List ℕ). listEntries l 0 (length (usedEntries r))) past-fixed ∙ entries-back (usedEntries r) rest (all-take (λ (e : Entry). OfBits 32 (entryNumbers e)) (r .«entry_count») (r .entries) (t .typed .entries)))
-      ∙ padded (r .«entry_count») (r .entries) (t .few) (t .typed .sixteen) (t .unused)
+      ∙ padded (r .«entry_count») (r .entries) (t .few) (t .typed .whole) (t .unused)
 
   pub record-back : listRecord all ≡ r
   unfolding listRecord fixedNumbers
@@ -131,9 +131,9 @@ module _ (r : Record) (w h : ℕ) (rest : List ℕ) (t : Listable r) where
       let count-is = number-from all dataStart (rangeNumbers (r .«data») ++ last) 4 past-headers in
       rw (head-fits, hs .0, hs .1, range-fits, count-is, le-leb (r .«entry_count») word (omega (arith, t .typed .size))) refl
 
-  entry-words : words (take (3 * countOf all) (drop fixedLength all)) ≡ true
+  entry-words : words (take (4 * countOf all) (drop fixedLength all)) ≡ true
   entry-words =
-      let n : 3 * countOf all ≡ length used = omega (arith, counted, used-count, entries-length (usedEntries r)) in
+      let n : 4 * countOf all ≡ length used = omega (arith, counted, used-count, entries-length (usedEntries r)) in
       ap₂ (λ (k : ℕ) (l : List ℕ). words (take k l)) n past-fixed ∙ ap words (take-append-seam used rest)
       ∙ words-fit (usedEntries r) (all-take (λ (e : Entry). OfBits 32 (entryNumbers e)) (r .«entry_count») (r .entries) (t .typed .entries))
 

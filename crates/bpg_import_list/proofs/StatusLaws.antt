@@ -18,7 +18,7 @@ use Rattle.bpg_import_list.specs.Calls.{fixedFits, words, readList, stat
 module _ (l : List ℕ) where
   -- the numbers of the entries in use
   abbrev entryWords : List ℕ
-  entryWords = take (3 * countOf l) (drop fixedLength l)
+  entryWords = take (4 * countOf l) (drop fixedLength l)
 
   pub no-fixed : length l < fixedLength → 20 ≡ statusOf (readList l)
   unfolding readList

@@ -36,7 +36,7 @@ headerFields =
     word ∷ word ∷ word ∷ word ∷ word ∷ flag ∷ flag ∷ byte ∷ byte ∷ word ∷ word ∷ flag ∷ flag ∷ flag ∷ flag ∷ byte
     ∷ flag ∷ flag ∷ flag ∷ flag ∷ flag ∷ flag ∷ flag ∷ flag ∷ flag ∷ []
 
--- a range, and three numbers of an entry
+-- a range
 abbrev pub rangeFields : List ℕ
 rangeFields = word ∷ word ∷ []
 
@@ -66,7 +66,7 @@ readList l =
     guard (fixedFits l) 19 0 >>= λ _.
     guard (leb (countOf l) maxEntries) 11 0 >>= λ _.
     guard (leb (listLength (countOf l)) (length l)) 20 0 >>= λ _.
-    guard (words (take (3 * countOf l) (drop fixedLength l))) 19 0 >>= λ _.
+    guard (words (take (4 * countOf l) (drop fixedLength l))) 19 0 >>= λ _.
     ok (listRecord l)
 
 -- 0, or the refusal's number

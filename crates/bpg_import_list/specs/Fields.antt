@@ -55,12 +55,12 @@ headerAt l k =
     }
 
 abbrev pub entryAt : List ℕ → ℕ → Entry
-entryAt l k = record { tag = u32At l k; payload = rangeAt l (k + 1) }
+entryAt l k = record { tag = u32At l k; payload = rangeAt l (k + 1); «tag_offset» = u32At l (k + 3) }
 
 -- n entries, the first at k
 unfoldable pub listEntries : List ℕ → ℕ → (n : ℕ) → List Entry
 listEntries l k zero = []
-listEntries l k (suc n) = entryAt l k ∷ listEntries l (k + 3) n
+listEntries l k (suc n) = entryAt l k ∷ listEntries l (k + 4) n
 
 -- the number of entries in use
 abbrev pub countOf : List ℕ → ℕ

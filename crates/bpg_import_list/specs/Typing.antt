@@ -29,7 +29,7 @@ pub record TypedRecord (r : Record) : Type 0 where
   pub flags : OfBits 8 (r .«pixel_format» ∷ r .«bit_depth_minus_8» ∷ r .«color_space» ∷ [])
   pub size : OfBits 32 (r .«picture_width» ∷ r .«picture_height» ∷ r .«entry_count» ∷ [])
   pub entries : All (λ (e : Entry). OfBits 32 (entryNumbers e)) (r .entries)
-  pub sixteen : length (r .entries) ≡ maxEntries
+  pub whole : length (r .entries) ≡ maxEntries
   pub control : OfBits 16 (animationNumbers r)
   pub headers : All TypedHeader (r .headers)
   pub two : length (r .headers) ≡ 2

@@ -126,7 +126,7 @@ pub(crate) fn status(numbers: &[u64]) -> u8
     if MAX_ENTRIES < entries {
         return 11;
     }
-    let end = FIXED + 3 * entries;
+    let end = FIXED + 4 * entries;
     if numbers.len() < end {
         return 20;
     }

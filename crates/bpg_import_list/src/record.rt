@@ -62,12 +62,17 @@ fn range(numbers: &[u64], k: usize) -> Range
 }
 
 fn entry(numbers: &[u64], k: usize) -> Entry
-    requires { ⌜ k + 3 ≤ count (now numbers) ⌝ }
+    requires { ⌜ k + 4 ≤ count (now numbers) ⌝ }
     ensures { λ r. ⌜ r ≡ entryAt (now (numbers .entry)) k ⌝ }
 {
     let tag = u32_at(numbers, k);
     let payload = range(numbers, k + 1);
-    Entry { tag, payload }
+    let tag_offset = u32_at(numbers, k + 3);
+    Entry {
+        tag,
+        payload,
+        tag_offset,
+    }
 }
 
 // The entries in use, and zero for the others.
@@ -80,7 +85,7 @@ fn entries(numbers: &[u64], used: usize) -> [Entry; MAX_ENTRIES]
     let mut all = [none; MAX_ENTRIES];
     let mut k: usize = 0;
     while k < used {
-        all[k] = entry(numbers, FIXED + 3 * k);
+        all[k] = entry(numbers, FIXED + 4 * k);
         k += 1;
     }
     all

@@ -55,22 +55,21 @@ module _ (seen : Bool) (p : ℕ) where
 
 -- ---- the loop
 
--- the block with a step's entry, and with what is then known of the animation
-abbrev pub addedBlock : Block → EntryReading → Bool → Animation → Block
-addedBlock b t animated animation =
+-- the block with one more entry, and with what is then known of the animation
+abbrev pub addedBlock : Block → Bool → Animation → Block
+addedBlock b animated animation =
     record {
       status = b .status;
       offset = b .offset;
       «entry_count» = b .«entry_count» + 1;
-      entries = set (b .entries) (b .«entry_count») (t .entry);
       animated = animated;
       animation = animation;
     }
 
--- `done` was read from p on, and stands in the block; from `next` on the rest is read
+-- `done` was read from p on, and counts in the block; from `next` on the rest is read
 pub record ReadSoFar (region : List ℕ) (p : ℕ) (block : Block) (next : ℕ) : Type 0 where
   pub done : List Extension
-  pub is : block ≡ blockAnswer p (ok done)
+  pub is : block ≡ blockAnswer (ok done)
   pub few : length done ≤ maxEntries
   pub at : next ≡ p + length (blockBytes done)
   pub rest : readEntries maxEntries false p (drop p region)
@@ -100,8 +99,8 @@ module _ (region : List ℕ) (p : ℕ) (block : Block) (next : ℕ) (inv : ReadS
   all-done : length region ≤ next → all ≡ ok (inv .done)
   all-done h = inv .rest ∙ rw (drop-of-length-le region h, entries-end (hasAnimation (inv .done)) next (maxEntries - length (inv .done)), append-nil)
 
-  pub ends : length region ≤ next → block ≡ blockAnswer p all
-  ends h = inv .is ∙ ap (blockAnswer p) (sym (all-done h))
+  pub ends : length region ≤ next → block ≡ blockAnswer all
+  ends h = inv .is ∙ ap blockAnswer (sym (all-done h))
 
   module _ (h : next < length region) where
     some : 0 < length (drop next region)
@@ -112,8 +111,8 @@ module _ (region : List ℕ) (p : ℕ) (block : Block) (next : ℕ) (inv : ReadS
         let none : maxEntries - length (inv .done) ≡ 0 = omega (arith, count) in
         inv .rest ∙ rw (none, entries-full (hasAnimation (inv .done)) next (drop next region) some)
 
-    pub full : maxEntries ≤ block .«entry_count» → refusedBlock 11 next ≡ blockAnswer p all
-    full k = ap (blockAnswer p) (sym (all-full k))
+    pub full : maxEntries ≤ block .«entry_count» → refusedBlock 11 next ≡ blockAnswer all
+    full k = ap blockAnswer (sym (all-full k))
 
     module _ (k : block .«entry_count» < maxEntries) where
       after : Decoded ℕ Extension → Outcome (List Extension)
@@ -128,23 +127,14 @@ module _ (region : List ℕ) (p : ℕ) (block : Block) (next : ℕ) (inv : ReadS
       step : all ≡ (readEntry (block .animated) next (drop next region) >>= after)
       step = step-seen ∙ ap (λ (b : Bool). readEntry b next (drop next region) >>= after) (sym seen)
 
-      pub stops : (s o : ℕ) → readEntry (block .animated) next (drop next region) ≡ error s o → refusedBlock s o ≡ blockAnswer p all
-      stops s o e = ap (blockAnswer p) (sym (step ∙ ap (λ (m : Outcome (Decoded ℕ Extension)). m >>= after) e))
+      pub stops : (s o : ℕ) → readEntry (block .animated) next (drop next region) ≡ error s o → refusedBlock s o ≡ blockAnswer all
+      stops s o e = ap blockAnswer (sym (step ∙ ap (λ (m : Outcome (Decoded ℕ Extension)). m >>= after) e))
 
       -- an entry was found and read
       module _ (bytes : All Byte region) (t : EntryReading) (s : Started region next t)
           (d : readEntry (block .animated) next (drop next region) ≡ ok (entryOf region t)) where
         abbrev new : Extension
         new = entryOf region t .value
-
-        abbrev start : ℕ
-        start = t .entry .payload .start
-
-        abbrev size : ℕ
-        size = t .entry .payload .length
-
-        size-new : length (new .payload) ≡ size
-        size-new = length-take-le size (drop start region) (omega (arith, s .next, s .inside, length-drop start region))
 
         -- it is as long as its bytes
         next-new : t .next .0 ≡ next + length (extensionBytes new)
@@ -156,12 +146,6 @@ module _ (region : List ℕ) (p : ℕ) (block : Block) (next : ℕ) (inv : ReadS
         at-new : t .next .0 ≡ p + length (blockBytes (inv .done ++ (new ∷ [])))
         at-new = omega (arith, next-new, inv .at, bytes-snoc new (inv .done))
 
-        entry-new : t .entry ∷ [] ≡ entriesAt (p + length (blockBytes (inv .done))) (new ∷ [])
-        entry-new =
-            let longer = simp length-append at next-new in
-            let n : start ≡ p + length (blockBytes (inv .done)) + length (ue7Bytes (new .tag)) + length (ue7Bytes (length (new .payload))) = omega (arith, longer, s .next, size-new, inv .at) in
-            ap₂ (λ (k m : ℕ). record { tag = new .tag; payload = range k m } ∷ []) n (sym size-new)
-
         rest-new : all
             ≡ (readEntries (maxEntries - length (inv .done ++ (new ∷ []))) (hasAnimation (inv .done ++ (new ∷ []))) (t .next .0) (drop (t .next .0) region) >>= λ es.
             ok ((inv .done ++ (new ∷ [])) ++ es))
@@ -169,44 +153,35 @@ module _ (region : List ℕ) (p : ℕ) (block : Block) (next : ℕ) (inv : ReadS
         rest-new =
             step ∙ ap (λ (m : Outcome (Decoded ℕ Extension)). m >>= after) d ∙ rw (length-append, has-snoc new (inv .done)) (simp append-assoc)
 
-        entries-new : set (block .entries) (block .«entry_count») (t .entry) ≡ padEntries (entriesAt p (inv .done ++ (new ∷ [])))
-        entries-new =
-            let es = entriesAt p (inv .done) in
-            let n = entries-length p (inv .done) in
-            ap₂ (λ (l : List Entry) (i : ℕ). set l i (t .entry)) (ap (λ (b : Block). b .entries) (inv .is)) (count ∙ sym n)
-            ∙ pad-snoc es (t .entry) (omega (arith, n, count))
-            ∙ ap padEntries (ap (λ (l : List Entry). es ++ l) entry-new ∙ sym (entries-snoc new (inv .done) p))
-
         count-new : block .«entry_count» + 1 ≡ length (inv .done ++ (new ∷ []))
         count-new = omega (arith, count, length-append (inv .done) (new ∷ []))
 
         module _ (animated : Bool) (animation : Animation) (says : animated ≡ hasAnimation (inv .done ++ (new ∷ [])))
             (said : animation ≡ foundAnimation (animationOf (inv .done ++ (new ∷ [])))) where
-          added-new : addedBlock block t animated animation ≡ blockAnswer p (ok (inv .done ++ (new ∷ [])))
+          added-new : addedBlock block animated animation ≡ blockAnswer (ok (inv .done ++ (new ∷ [])))
           added-new =
               λ z.
               record {
                 status = ap (λ (b : Block). b .status) (inv .is) z;
                 offset = ap (λ (b : Block). b .offset) (inv .is) z;
                 «entry_count» = count-new z;
-                entries = entries-new z;
                 animated = says z;
                 animation = said z;
               }
 
-          read-on : ReadSoFar region p (addedBlock block t animated animation) (t .next .0)
+          read-on : ReadSoFar region p (addedBlock block animated animation) (t .next .0)
           read-on =
               record { done = inv .done ++ (new ∷ []); is = added-new; few = omega (arith, count, count-new); at = at-new; rest = rest-new }
 
         -- an entry with tag 5 says what is known of the animation; no other does
-        pub goes-on : t .entry .tag ≢ 5 → ReadSoFar region p (addedBlock block t (block .animated) (block .animation)) (t .next .0)
+        pub goes-on : t .entry .tag ≢ 5 → ReadSoFar region p (addedBlock block (block .animated) (block .animation)) (t .next .0)
         goes-on n =
             let plain = ne-eqb (t .entry .tag) 5 n in
             read-on (block .animated) (block .animation) (rw (has-snoc new (inv .done), plain, or-false) seen)
             (rw (loop-snoc new (inv .done) (λ l. absurd (n (eqb-true (t .entry .tag) 5 l))), plain, select-false) (ap (λ (b : Block). b .animation) (inv .is)))
 
         pub animates : t .entry .tag ≡ 5 → block .animated ≡ false → (a : Animation) → a ≡ foundAnimation (animationFrom (readAnimation 0 (new .payload)))
-            → ReadSoFar region p (addedBlock block t true a) (t .next .0)
+            → ReadSoFar region p (addedBlock block true a) (t .next .0)
         animates e first a k =
             let control = eq-eqb (t .entry .tag) 5 e in
             read-on true a (rw (has-snoc new (inv .done), control, or-true)) (rw (loop-snoc new (inv .done) (λ _. sym seen ∙ first), control, select-true) k)
@@ -214,7 +189,7 @@ module _ (region : List ℕ) (p : ℕ) (block : Block) (next : ℕ) (inv : ReadS
 -- ---- the region's length
 
 module _ (region : List ℕ) (p : ℕ) where
-  pub too-long : maxFile < length region → refusedBlock 1 0 ≡ blockAnswer p (entriesIn region p)
+  pub too-long : maxFile < length region → refusedBlock 1 0 ≡ blockAnswer (entriesIn region p)
   unfolding entriesIn
   too-long h = rw (lt-leb _ _ h)
 

@@ -34,7 +34,7 @@ use Rattle.bpg_read_entries.specs.Entries.{EntryHead, entryStart, animat
 
 module _ (region : List ℕ) (at : ℕ) where
   abbrev answer : EntryReading
-  answer = entryHeadAnswer (entryStart at (drop at region))
+  answer = entryHeadAnswer at (entryStart at (drop at region))
 
   pub tag-refused : (s o : ℕ) → ue7 32 .decode at at (drop at region) ≡ error s o → refusedEntry s o ≡ answer
   unfolding entryStart
@@ -50,7 +50,7 @@ module _ (region : List ℕ) (at : ℕ) where
       unfolding entryStart
       too-long h = rw (t, z, lt-leb size (length (drop start region)) (omega (arith, length-drop start region)))
 
-      pub started : size ≤ length region - start → foundEntry tag start size ≡ answer
+      pub started : size ≤ length region - start → foundEntry at tag start size ≡ answer
       unfolding entryStart
       started h = rw (t, z, le-leb size (length (drop start region)) (omega (arith, length-drop start region)))
 
@@ -111,6 +111,7 @@ entryOf region t = decoded (record { tag = t .entry .tag; payload = payloadOf re
 pub record Started (region : List ℕ) (p : ℕ) (t : EntryReading) : Type 0 where
   pub is : entryStart p (drop p region)
       ≡ ok (decoded (record { tag = t .entry .tag; size = t .entry .payload .length }) (t .entry .payload .start) (drop (t .entry .payload .start) region))
+  pub at : t .entry .«tag_offset» ≡ p
   pub next : t .next .0 ≡ t .entry .payload .start + t .entry .payload .length
   pub inside : t .next .0 ≤ length region
 
@@ -134,21 +135,21 @@ module _ (region : List ℕ) (seen : Bool) (p : ℕ) where
   abbrev step : Outcome (Decoded ℕ EntryHead)
   step = entryStart p (drop p region)
 
-  module _ (t : EntryReading) (e : t ≡ entryHeadAnswer step) where
+  module _ (t : EntryReading) (e : t ≡ entryHeadAnswer p step) where
     pub step-refused : t .status ≢ 0 → entry ≡ error (t .status) (t .offset .0)
     step-refused n = entry-steps seen p (drop p region) ∙ by step e
       where
-        by : (m : Outcome (Decoded ℕ EntryHead)) → t ≡ entryHeadAnswer m → (m >>= entered seen p) ≡ error (t .status) (t .offset .0)
+        by : (m : Outcome (Decoded ℕ EntryHead)) → t ≡ entryHeadAnswer p m → (m >>= entered seen p) ≡ error (t .status) (t .offset .0)
         by (ok x) e = absurd (n (ap (λ (y : EntryReading). y .status) e))
         by (error s o) e = ap (λ (y : EntryReading). error (y .status) (y .offset .0)) (sym e)
 
     pub step-started : p ≤ length region → t .status ≡ 0 → Started region p t
     step-started h z = by step refl e
       where
-        by : (m : Outcome (Decoded ℕ EntryHead)) → step ≡ m → t ≡ entryHeadAnswer m → Started region p t
+        by : (m : Outcome (Decoded ℕ EntryHead)) → step ≡ m → t ≡ entryHeadAnswer p m → Started region p t
         by (ok x) d e =
             let i = start-inside region p x h d in
-            subst (Started region p) (sym e) (record { is = d ∙ ap (λ (l : List ℕ). ok (decoded (x .value) (x .next) l)) (i .0); next = refl; inside = i .1 })
+            subst (Started region p) (sym e) (record { is = d ∙ ap (λ (l : List ℕ). ok (decoded (x .value) (x .next) l)) (i .0); at = refl; next = refl; inside = i .1 })
         by (error s o) d e =
             absurd
             (subst ReadingStatus (sym (ap (λ (y : EntryReading). y .status) e) ∙ z)

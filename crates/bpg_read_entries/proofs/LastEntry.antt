@@ -41,7 +41,7 @@ module _ (e : Extension) where
       let n2 = length-append tag (size ++ x .payload) in
       let n3 = length-append size (x .payload) in
       let n : start + length (x .payload) + length (blockBytes es) ≡ p + length (blockBytes (x ∷ es)) = omega arith in
-      ap (λ (l : List Entry). record { tag = x .tag; payload = range start (length (x .payload)) } ∷ l)
+      ap (λ (l : List Entry). record { tag = x .tag; payload = range start (length (x .payload)); «tag_offset» = p } ∷ l)
       (entries-snoc es (start + length (x .payload)) ∙ ap (λ (k : ℕ). entriesAt (start + length (x .payload)) es ++ entriesAt k one) n)
 
   pub bytes-snoc : (es : List Extension) → length (blockBytes (es ++ one)) ≡ length (blockBytes es) + length (extensionBytes e)

@@ -3,3 +3,4 @@ pub mod EntryLaws
 pub mod LastEntry
 pub mod BlockLaws
 pub mod CheckedEntry
+pub mod Ahead

@@ -34,13 +34,14 @@ animationControl seen p start l = guard (not seen) 13 p >>= λ _. readAnimation 
 abbrev pub refusedEntry : (status offset : ℕ) → EntryReading
 refusedEntry s o = record { status = s; offset = bytePos o; entry = zeroEntry; next = bytePos 0 }
 
-abbrev pub foundEntry : (tag start size : ℕ) → EntryReading
-foundEntry tag start size =
-    record { status = 0; offset = bytePos 0; entry = record { tag = tag; payload = range start size }; next = bytePos (start + size) }
+-- the entry whose tag stands at p
+abbrev pub foundEntry : (p tag start size : ℕ) → EntryReading
+foundEntry p tag start size =
+    record { status = 0; offset = bytePos 0; entry = record { tag = tag; payload = range start size; «tag_offset» = p }; next = bytePos (start + size) }
 
-abbrev pub entryHeadAnswer : Outcome (Decoded ℕ EntryHead) → EntryReading
-entryHeadAnswer (ok x) = foundEntry (x .value .tag) (x .next) (x .value .size)
-entryHeadAnswer (error s o) = refusedEntry s o
+abbrev pub entryHeadAnswer : (p : ℕ) → Outcome (Decoded ℕ EntryHead) → EntryReading
+entryHeadAnswer p (ok x) = foundEntry p (x .value .tag) (x .next) (x .value .size)
+entryHeadAnswer p (error s o) = refusedEntry s o
 
 -- the entry at p of a region; one that is longer than a file may be is 1 at 0. Past the region's end it is as at the end: 2 at p
 unfoldable pub entryIn : List ℕ → (p : ℕ) → Outcome (Decoded ℕ EntryHead)

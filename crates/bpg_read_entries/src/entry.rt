@@ -35,9 +35,11 @@ fn refused(status: u8, offset: BytePos) -> EntryReading
     }
 }
 
-fn found(tag: u32, start: BytePos, size: u32) -> EntryReading
+// The entry whose tag stands at `at`, and its payload at `start`.
+fn found(at: BytePos, tag: u32, start: BytePos, size: u32) -> EntryReading
+    requires { ⌜ at .0 ≤ maxFile ⌝ }
     requires { ⌜ start .0 + size ≤ maxFile ⌝ }
-    ensures { λ r. ⌜ r ≡ foundEntry tag (start .0) size ⌝ }
+    ensures { λ r. ⌜ r ≡ foundEntry (at .0) tag (start .0) size ⌝ }
 {
     EntryReading {
         status: 0,
@@ -48,6 +50,7 @@ fn found(tag: u32, start: BytePos, size: u32) -> EntryReading
                 start: start.0 as u32,
                 length: size,
             },
+            tag_offset: at.0 as u32,
         },
         next: BytePos(start.0 + size as usize),
     }
@@ -57,7 +60,7 @@ fn found(tag: u32, start: BytePos, size: u32) -> EntryReading
 pub(crate) fn read(region: &[u8], at: BytePos) -> EntryReading
     requires { ⌜ count (now region) ≤ maxFile ⌝ }
     requires { ⌜ at .0 ≤ count (now region) ⌝ }
-    ensures { λ r. ⌜ r ≡ entryHeadAnswer (entryStart (at .0) (drop (at .0) (now (region .entry)))) ⌝ }
+    ensures { λ r. ⌜ r ≡ entryHeadAnswer (at .0) (entryStart (at .0) (drop (at .0) (now (region .entry)))) ⌝ }
 {
     match ue7::read(region, at, 32) {
         Number::Refused(status, offset) => refused(status, offset),
@@ -67,7 +70,7 @@ pub(crate) fn read(region: &[u8], at: BytePos) -> EntryReading
                 if region.len() - start.0 < size as usize {
                     return refused(2, length_at);
                 }
-                found(tag, start, size)
+                found(at, tag, start, size)
             }
         },
     }
@@ -87,7 +90,7 @@ pub(crate) fn control(region: &[u8], at: BytePos, seen: bool, step: EntryReading
 
 // The entry at `at`, for any region and offset: a region longer than a file is refused, and an offset past the region.
 pub fn read_checked(region: &[u8], at: BytePos) -> EntryReading
-    ensures { λ r. ⌜ r ≡ entryHeadAnswer (entryIn (now (region .entry)) (at .0)) ⌝ }
+    ensures { λ r. ⌜ r ≡ entryHeadAnswer (at .0) (entryIn (now (region .entry)) (at .0)) ⌝ }
 {
     if MAX_FILE < region.len() {
         return refused(1, BytePos(0));

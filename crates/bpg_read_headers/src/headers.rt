@@ -17,7 +17,7 @@ pub struct HeadersReading {
     pub next: BytePos,
 }
 
-fn refused(status: u8, offset: BytePos) -> HeadersReading
+pub fn refused(status: u8, offset: BytePos) -> HeadersReading
     ensures { λ r. ⌜ r ≡ refusedHeaders status (offset .0) ⌝ }
 {
     let header = zero_header();

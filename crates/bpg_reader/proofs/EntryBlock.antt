@@ -16,16 +16,16 @@ module _ {file : List ℕ} {h : Head} (k : HeadRead file h) where
   abbrev after : List ℕ
   after = drop (h .end) file
 
-  pub block-too-large : length file - h .end < h .extensionLength → refusedBlock 2 (h .extensionLengthAt) ≡ blockAnswer (h .end) (readBlock h after)
+  pub block-too-large : length file - h .end < h .extensionLength → refusedBlock 2 (h .extensionLengthAt) ≡ blockAnswer (readBlock h after)
   unfolding readBlock
   block-too-large n = rw (lt-leb (h .extensionLength) (length after) (omega (arith, length-drop (h .end) file)))
 
-  pub block-empty : h .extensionLength ≡ 0 → refusedBlock 0 0 ≡ blockAnswer (h .end) (readBlock h after)
+  pub block-empty : h .extensionLength ≡ 0 → refusedBlock 0 0 ≡ blockAnswer (readBlock h after)
   unfolding readBlock readEntries animationOf
   block-empty e = rw (e, le-leb 0 (length after) (omega arith))
 
   pub block-region : h .extensionLength ≤ length file - h .end
-      → blockAnswer (h .end) (entriesIn (take (headersStart h - 0) file) (h .end)) ≡ blockAnswer (h .end) (readBlock h after)
+      → blockAnswer (entriesIn (take (headersStart h - 0) file) (h .end)) ≡ blockAnswer (readBlock h after)
   unfolding entriesIn readBlock
   block-region n =
       let whole : headersStart h - 0 ≡ headersStart h = omega arith in

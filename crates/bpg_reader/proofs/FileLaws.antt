@@ -39,6 +39,11 @@ module _ (file : List ℕ) (short : length file ≤ maxFile) (head : Head) (read
       let f = head-facts file (headFields head) known in
       record { bytes = bytes; short = short; read = known; end-inside = f .end-inside; depth-limit = f .depth-limit }
 
+-- after the head, what is left to answer is the body
+pub body-answer : {file : List ℕ} (head : Head) → HeadRead file (headFields head) → readFile file ≡ answerOf (readBody (headFields head) (drop (head .end .0) file))
+unfolding readFile
+body-answer head k = ap answerOf (content-is k)
+
 -- of bytes, the status is 0 exactly when they are an accepted file
 pub exact : (file : List ℕ) → All Byte file → (r : Reading) → r ≡ readFile file → (r ≡ readFile file) × ((r .status ≡ 0) ↔ Accepted file)
 exact file bytes r e =

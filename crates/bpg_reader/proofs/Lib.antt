@@ -5,5 +5,6 @@ pub mod BodyChain
 pub mod BodyRecord
 pub mod BodyLaws
 pub mod FileLaws
+pub mod Filling
 pub mod GivenLaws
 pub mod Requirements

@@ -1,7 +1,8 @@
--- The record of a file, put together from what its parts were read as.
-use mathlib.Core.List.{[], _∷_}
+-- The record of a file, put together from what its parts were read as, and its entries.
+use mathlib.Core.List.{List, [], _∷_}
 use Prim.Native.Nat.{ℕ, _-_}
 use Rattle.bpg_ue7.specs.Ue7.{notZero}
+use Rattle.bpg_format.specs.declared.record.Entry.{Entry}
 use Rattle.bpg_format.specs.declared.record.Record.{Record}
 use Rattle.bpg_format.specs.declared.answer.Reading.{Reading}
 use Rattle.bpg_format.specs.Zero.{range}
@@ -10,8 +11,8 @@ use Rattle.bpg_read_head.specs.declared.head.Head.{Head}
 use Rattle.bpg_read_entries.specs.declared.block.Block.{Block}
 use Rattle.bpg_read_headers.specs.declared.headers.HeadersReading.{HeadersReading}
 
-abbrev pub assembledRecord : (len : ℕ) → Head → Block → HeadersReading → Record
-assembledRecord len h b x =
+abbrev pub assembledRecord : (len : ℕ) → Head → Block → HeadersReading → List Entry → Record
+assembledRecord len h b x es =
     record {
       «pixel_format» = h .flags .«pixel_format»;
       «alpha1_flag» = h .flags .«alpha1_flag»;
@@ -25,7 +26,7 @@ assembledRecord len h b x =
       «picture_height» = h .«picture_height»;
       «explicit_length» = notZero (h .«data_length»);
       «entry_count» = b .«entry_count»;
-      entries = b .entries;
+      entries = es;
       «loop_count» = b .animation .«loop_count»;
       «frame_period_num» = b .animation .«frame_period_num»;
       «frame_period_den» = b .animation .«frame_period_den»;
@@ -33,12 +34,12 @@ assembledRecord len h b x =
       «data» = range (x .next .0) (len - x .next .0);
     }
 
-abbrev pub assembledReading : (len : ℕ) → Head → Block → HeadersReading → Reading
-assembledReading len h b x =
+abbrev pub assembledReading : (len : ℕ) → Head → Block → HeadersReading → List Entry → Reading
+assembledReading len h b x es =
     record {
       status = 0;
       offset = 0;
       «coded_width» = codedSize (x .color) (h .«picture_width»);
       «coded_height» = codedSize (x .color) (h .«picture_height»);
-      «record» = assembledRecord len h b x;
+      «record» = assembledRecord len h b x es;
     }

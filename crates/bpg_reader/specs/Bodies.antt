@@ -2,11 +2,11 @@
 use mathlib.Core.Path.{_≡_}
 use mathlib.Core.Bool.{Bool, not, _||_}
 use mathlib.Core.List.{List}
-use Prim.Native.Nat.{ℕ, _+_, _≤_}
+use Prim.Native.Nat.{ℕ, _+_, _-_, _≤_}
 use lib.Dec.{eqb}
 use lib.ListN.{length, drop}
 use Rattle.bpg_codec.specs.Select.{select}
-use Rattle.bpg_codec.specs.Outcome.{ok}
+use Rattle.bpg_codec.specs.Outcome.{Outcome, ok, error}
 use Rattle.bpg_codec.specs.Lawful.{All, Byte}
 use Rattle.bpg_ue7.specs.Ue7.{notZero}
 use Rattle.bpg_bytes.specs.Positions.{bytePos}
@@ -19,7 +19,10 @@ use Rattle.bpg_read_head.specs.declared.head.Head.{Head as HeadReading}
 use Rattle.bpg_read_head.specs.declared.call.CodedHead.{CodedHead}
 use Rattle.bpg_read_head.specs.FlagBytes.{flagFields}
 use Rattle.bpg_read_head.specs.Calls.{fieldsOf, isHead}
+use Rattle.bpg_read_entries.specs.Blocks.{refusedBlock, blockAnswer}
+use Rattle.bpg_read_headers.specs.BothHeaders.{refusedHeaders, headersAnswer}
 use Rattle.bpg_reader.specs.declared.rest.Stop.{Stop}
+use Rattle.bpg_reader.specs.declared.rest.Survey.{Survey}
 
 -- what a head that was read says
 abbrev pub headFields : HeadReading → Head
@@ -75,3 +78,17 @@ asked g l h = not g || isHead l h
 -- after a head that was refused, or read: 21 at 0 for one that is not asked for
 abbrev pub afterHead : HeadReading → (CodedHead → Bool) → Stop
 afterHead h isAsked = select (eqb (h .status) 0) (select (isAsked (fieldsOf h)) (stop 0 0) (stop 21 0)) (stop (h .status) (h .offset .0))
+
+abbrev pub refusedSurvey : (status offset : ℕ) → Survey
+refusedSurvey s o = record { status = s; offset = bytePos o; block = refusedBlock 0 0; both = refusedHeaders 0 0 }
+
+-- what a body says, of a file of `len` bytes; the data is its end
+abbrev pub surveyOf : (len : ℕ) → Outcome Content → Survey
+surveyOf len (ok c) =
+    record {
+      status = 0;
+      offset = bytePos 0;
+      block = blockAnswer (ok (c .extensions));
+      both = headersAnswer (ok (c .alphaHeader, c .colorHeader, len - length (c .hevcData)));
+    }
+surveyOf len (error s o) = refusedSurvey s o

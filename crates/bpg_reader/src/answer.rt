@@ -1,13 +1,16 @@
-// The record of a file, put together from its parts.
+// The record of a file, put together from its parts but for the entries, which are zero.
 use bpg_format::Range;
 use bpg_format::Reading;
 use bpg_format::Record;
+use bpg_format::zero_record;
 use bpg_read_entries::block::Block;
 use bpg_read_head::head::Head;
 use bpg_read_headers::headers::HeadersReading;
 ghost use mathlib.Core.Path.{_≡_};
 ghost use Prim.Native.Nat.{_+_, _≤_, _-_, _*_, _/_, _^_};
-ghost use Rattle.bpg_format.specs.Limits.{maxFile};
+ghost use lib.ListN.{replicate};
+ghost use Rattle.bpg_format.specs.Limits.{maxEntries, maxFile};
+ghost use Rattle.bpg_format.specs.Zero.{zeroEntry};
 ghost use Rattle.bpg_reader.specs.Assembled.{assembledRecord, assembledReading};
 
 // A size rounded up to a multiple of the smallest coding block, whose size is 2^log2_size.
@@ -22,9 +25,10 @@ fn coded_size(size: u32, log2_size: u32) -> u64
 fn record(len: usize, head: Head, block: Block, both: HeadersReading) -> Record
     requires { ⌜ len ≤ maxFile ⌝ }
     requires { ⌜ both .next .0 ≤ len ⌝ }
-    ensures { λ r. ⌜ r ≡ assembledRecord len head block both ⌝ }
+    ensures { λ r. ⌜ r ≡ assembledRecord len head block both (replicate maxEntries zeroEntry) ⌝ }
 {
-    let entries = block.entries;
+    let zero = zero_record();
+    let entries = zero.entries;
     let alpha = both.alpha;
     let color = both.color;
     Record {
@@ -52,12 +56,12 @@ fn record(len: usize, head: Head, block: Block, both: HeadersReading) -> Record
     }
 }
 
-// The answer for a file of `len` bytes, all of whose parts were read.
+// The answer for a file of `len` bytes, all of whose parts were read, with zero entries.
 pub(crate) fn assemble(len: usize, head: Head, block: Block, both: HeadersReading) -> Reading
     requires { ⌜ len ≤ maxFile ⌝ }
     requires { ⌜ both .next .0 ≤ len ⌝ }
     requires { ⌜ both .color .«log2_min_luma_coding_block_size_minus3» ≤ 3 ⌝ }
-    ensures { λ r. ⌜ r ≡ assembledReading len head block both ⌝ }
+    ensures { λ r. ⌜ r ≡ assembledReading len head block both (replicate maxEntries zeroEntry) ⌝ }
 {
     let color = both.color;
     let log2_size = color.log2_min_luma_coding_block_size_minus3 + 3;

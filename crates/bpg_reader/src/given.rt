@@ -1,5 +1,5 @@
 // Reading a file, all of it or on from a head that the caller has (request 9/13): its limit, its head, the rest.
-use crate::rest;
+use crate::filled;
 use crate::rest::Stop;
 use bpg_bytes::BytePos;
 use bpg_format::MAX_FILE;
@@ -64,7 +64,7 @@ pub fn read_or_body(file: &[u8], given: &[u64], is_given: bool) -> Reading
     if stop.status != 0 {
         return reading_refused(stop.status, stop.offset.0);
     }
-    rest::read(file, head)
+    filled::read(file, head)
 }
 
 // What `read` answers for the file, if `given` is its head. The head is read again over the file, so nobody is trusted: another head is 21 at 0.

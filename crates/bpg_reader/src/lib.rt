@@ -1,6 +1,7 @@
 // Reading a BPG file: the record that the syntax gives, or a refusal; all of it, or its head first.
 mod answer;
 mod file;
+mod filled;
 mod given;
 mod rest;
 

@@ -1,28 +1,25 @@
 // What follows the head of a file: the extension block, the HEVC headers and the data.
-use crate::answer;
 use bpg_bytes::BytePos;
-use bpg_format::Reading;
 use bpg_format::data_allowed;
 use bpg_format::has_alpha;
-use bpg_format::reading_refused;
 use bpg_read_entries::block;
 use bpg_read_entries::block::Block;
 use bpg_read_head::head::Head;
 use bpg_read_headers::headers;
+use bpg_read_headers::headers::HeadersReading;
 ghost use mathlib.Core.Path.{_≡_};
 ghost use mathlib.Core.Bool.{not, _||_};
 ghost use Prim.Native.Nat.{_≤_};
 ghost use lib.ListN.{length as count, drop};
 ghost use Rattle.bpg_format.specs.Tests.{countsToEnd};
 ghost use Rattle.bpg_format.specs.Read.{readBlock, readBody};
-ghost use Rattle.bpg_format.specs.Records.{answerOf};
 ghost use Rattle.bpg_read_entries.specs.Blocks.{blockAnswer};
-ghost use Rattle.bpg_reader.specs.Bodies.{headFields, HeadRead, afterHeaders};
+ghost use Rattle.bpg_reader.specs.Bodies.{headFields, HeadRead, afterHeaders, refusedSurvey, surveyOf};
 
-// The entries of the extension block. Without the extension flag its length is 0.
+// The extension block. Without the extension flag its length is 0.
 fn entries(file: &[u8], head: Head) -> Block
     requires { ⌜ HeadRead (now file) (headFields head) ⌝ }
-    ensures { λ r. ⌜ r ≡ blockAnswer (head .end .0) (readBlock (headFields head) (drop (head .end .0) (now (file .entry)))) ⌝ }
+    ensures { λ r. ⌜ r ≡ blockAnswer (readBlock (headFields head) (drop (head .end .0) (now (file .entry)))) ⌝ }
 {
     let length = head.extension_length as usize;
     if file.len() - head.end.0 < length {
@@ -77,21 +74,42 @@ fn after_headers(file: &[u8], status: u8, offset: BytePos, next: BytePos) -> Sto
     }
 }
 
+// Status 0, and what the parts of a body were read as but for the entries, which are stored last; or a refusal and zeros.
+pub struct Survey {
+    pub status: u8,
+    pub offset: BytePos,
+    pub block: Block,
+    pub both: HeadersReading,
+}
+
+fn refused(status: u8, offset: BytePos) -> Survey
+    ensures { λ r. ⌜ r ≡ refusedSurvey status (offset .0) ⌝ }
+{
+    let block = block::none();
+    let both = headers::refused(0, BytePos(0));
+    Survey {
+        status,
+        offset,
+        block,
+        both,
+    }
+}
+
 // The body of a file whose head this is.
-pub(crate) fn read(file: &[u8], head: Head) -> Reading
+pub(crate) fn read(file: &[u8], head: Head) -> Survey
     requires { ⌜ HeadRead (now file) (headFields head) ⌝ }
-    ensures { λ r. ⌜ r ≡ answerOf (readBody (headFields head) (drop (head .end .0) (now (file .entry)))) ⌝ }
+    ensures { λ r. ⌜ r ≡ surveyOf (count (now (file .entry))) (readBody (headFields head) (drop (head .end .0) (now (file .entry)))) ⌝ }
 {
     let block = entries(file, head);
     if block.status != 0 {
-        return reading_refused(block.status, block.offset.0);
+        return refused(block.status, block.offset);
     }
     if !control_fits(head.flags.animation_flag, block.animated) {
-        return reading_refused(14, 5);
+        return refused(14, BytePos(5));
     }
     let start = head.end.0 + head.extension_length as usize;
     if !reaches_end(head.data_length, file.len() - start) {
-        return reading_refused(10, head.data_length_at.0);
+        return refused(10, head.data_length_at);
     }
     let alpha = has_alpha(head.flags.alpha1_flag, head.flags.alpha2_flag);
     let both = headers::read(
@@ -102,7 +120,12 @@ pub(crate) fn read(file: &[u8], head: Head) -> Reading
     );
     let stop = after_headers(file, both.status, both.offset, both.next);
     if stop.status != 0 {
-        return reading_refused(stop.status, stop.offset.0);
+        return refused(stop.status, stop.offset);
     }
-    answer::assemble(file.len(), head, block, both)
+    Survey {
+        status: 0,
+        offset: BytePos(0),
+        block,
+        both,
+    }
 }

@@ -5,6 +5,7 @@
 //   01, an entry count, a payload's length and the data's of four bytes, high byte first, a file: the size of the file of its record with so
 //       many entries of that length, and with that data, over zeros
 use bpg_format::Entry;
+use bpg_format::MAX_ENTRIES;
 use bpg_format::Range;
 use bpg_format::Record;
 use bpg_format::Written;
@@ -12,7 +13,7 @@ use bpg_hex::HexLine;
 ghost use mathlib.Core.Path.{_≡_};
 ghost use lib.ListN.{length as count};
 
-// So many that 16 entries over them make a file that is too long.
+// So many that 64 entries over them make a file that is too long.
 const ZEROS: usize = 1_100_000;
 
 fn zeros() -> [u8; ZEROS]
@@ -53,7 +54,7 @@ fn number(a: u8, b: u8, c: u8, d: u8) -> u32 {
     (a as u32 * 256 + b as u32) * 65_536 + c as u32 * 256 + d as u32
 }
 
-// All 16 entries are alike, whatever their count.
+// All entries are alike, whatever their count.
 fn changed(record: Record, entry_count: u8, payload: u32, data: u32) -> Record {
     let entry = Entry {
         tag: 1,
@@ -61,6 +62,7 @@ fn changed(record: Record, entry_count: u8, payload: u32, data: u32) -> Record {
             start: 0,
             length: payload,
         },
+        tag_offset: 0,
     };
     let range = Range {
         start: 0,
@@ -69,7 +71,7 @@ fn changed(record: Record, entry_count: u8, payload: u32, data: u32) -> Record {
     let mut all = record;
     all.extension_present_flag = true;
     all.entry_count = entry_count as u32;
-    all.entries = [entry; 16];
+    all.entries = [entry; MAX_ENTRIES];
     all.data = range;
     all
 }

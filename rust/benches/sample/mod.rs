@@ -123,7 +123,11 @@ fn set_entries(record: &mut Record, entries: usize) {
     };
     for (k, entry) in record.entries[..entries].iter_mut().enumerate() {
         let tag = if k == 1 { 5 } else { [6, 1000][k % 2] };
-        *entry = Entry { tag, payload };
+        *entry = Entry {
+            tag,
+            payload,
+            tag_offset: 0,
+        };
     }
     record.entry_count = entries as u32;
     if entries > 1 {

@@ -3,6 +3,7 @@
 use super::header::{Extension, Header, Pcm};
 use super::model::{control, part, ue7, Entry, Model, Wrong};
 use super::Random;
+use crate::plain::MAX_ENTRIES;
 
 /// Spoils a part of the file; some faults leave it valid.
 pub fn spoil(model: &mut Model, random: &mut Random) {
@@ -56,7 +57,7 @@ fn spoil_number(model: &mut Model, random: &mut Random) {
     model.wrong = Some((random.below(numbers), wrong));
 }
 
-/// Seventeen entries, a second tag 5, entries without the flag.
+/// One entry too many, a second tag 5, entries without the flag.
 fn spoil_entries(model: &mut Model, random: &mut Random) {
     match random.below(3) {
         0 => {
@@ -65,7 +66,7 @@ fn spoil_entries(model: &mut Model, random: &mut Random) {
                 tag,
                 payload: Vec::new(),
             };
-            model.entries.resize_with(17, more);
+            model.entries.resize_with(MAX_ENTRIES + 1, more);
         }
         1 => {
             for _ in 0..2 {
@@ -90,7 +91,7 @@ fn spoil_animation(model: &mut Model, random: &mut Random) {
 fn spoil_control(model: &mut Model, random: &mut Random) {
     let payload = spoiled_control(random);
     model.entries.retain(|entry| entry.tag != 5);
-    model.entries.truncate(15);
+    model.entries.truncate(MAX_ENTRIES - 1);
     let at = random.below(model.entries.len() + 1);
     model.entries.insert(at, Entry { tag: 5, payload });
     model.extension = true;

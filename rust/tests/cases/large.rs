@@ -43,7 +43,7 @@ pub fn long_slice(size: usize) -> Vec<u8> {
     file
 }
 
-/// A record whose 16 entries are all the same megabyte, and whose file is around the limit.
+/// A record with 16 entries that are all the same megabyte, and whose file is around the limit.
 pub fn record_at_limit(random: &mut Random, source: Vec<u8>) -> Case {
     let mut numbers = vec![0; NUMBERS];
     read_list(FILE_A, &mut numbers).expect("file A is valid");

@@ -2,6 +2,7 @@
 
 use super::header::Header;
 use super::Random;
+use crate::plain::MAX_ENTRIES;
 
 /// How a number in the file differs from its right code.
 #[derive(Clone, Copy)]
@@ -175,8 +176,8 @@ fn entries(random: &mut Random) -> Vec<Entry> {
     let count = match random.below(8) {
         0..=2 => 0,
         3..=5 => random.within(1, 3),
-        6 => random.within(4, 16),
-        _ => random.pick(&[15, 16]),
+        6 => random.within(4, MAX_ENTRIES),
+        _ => random.pick(&[16, 17, MAX_ENTRIES - 1, MAX_ENTRIES]),
     };
     let control_at = random.below(count + 1);
     let entries = (0..count).map(|k| entry(random, k == control_at));

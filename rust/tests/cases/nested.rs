@@ -2,6 +2,7 @@
 
 use super::model::{Entry, Model};
 use super::{bytes, faults, Random};
+use crate::plain::MAX_ENTRIES;
 
 /// The tag of a thumbnail.
 const THUMBNAIL: u32 = 4;
@@ -32,7 +33,7 @@ fn nest((width, height): (u32, u32), levels: usize, random: &mut Random) -> Vec<
     model.bytes()
 }
 
-/// Puts a thumbnail somewhere among the entries, in place of one of them where there are 16.
+/// Puts a thumbnail somewhere among the entries, in place of one of them where there is no room.
 fn insert(size: (u32, u32), levels: usize, model: &mut Model, random: &mut Random) {
     let payload = match random.below(40) {
         0 => Vec::new(),
@@ -44,7 +45,7 @@ fn insert(size: (u32, u32), levels: usize, model: &mut Model, random: &mut Rando
         payload,
     };
     let at = random.below(model.entries.len() + 1);
-    let full = model.entries.len() == 16;
+    let full = model.entries.len() == MAX_ENTRIES;
     match model.entries.get_mut(at) {
         Some(old) if full && old.tag != 5 => *old = entry,
         _ if full => {}

@@ -3,7 +3,7 @@
 use super::faults::{spoiled_control, spoiled_data};
 use super::model::Model;
 use super::Random;
-use crate::plain::{read_list, ENTRY, FIXED, NUMBERS};
+use crate::plain::{read_list, ENTRY, FIXED, MAX_ENTRIES, NUMBERS};
 
 pub struct Case {
     pub numbers: Vec<u64>,
@@ -30,6 +30,9 @@ pub fn case(random: &mut Random) -> Case {
     if random.flag() {
         case.scatter(random);
     }
+    if random.flag() {
+        case.move_tags(random);
+    }
     match random.below(9) {
         0 | 1 => {}
         2..=4 => case.change(random),
@@ -43,6 +46,12 @@ pub fn case(random: &mut Random) -> Case {
 }
 
 impl Case {
+    /// Other tag offsets, which change no answer.
+    fn move_tags(&mut self, random: &mut Random) {
+        let entries = self.numbers[FIXED..].chunks_exact_mut(ENTRY);
+        entries.for_each(|entry| entry[3] = random.number(32));
+    }
+
     /// A list may be longer than the record, whatever the numbers after it, or too short: for the fixed numbers, or
     /// for its entries.
     fn resize(&mut self, random: &mut Random) {
@@ -60,7 +69,7 @@ impl Case {
 
     /// Numbers that their fields cannot hold, before and after a count of entries at its limit or above.
     fn misfit(&mut self, random: &mut Random) {
-        self.numbers[ENTRY_COUNT] = random.pick(&[1, 15, 16, 16, 17, 18, 255, u64::from(u32::MAX)]);
+        self.numbers[ENTRY_COUNT] = random.pick(&[1, 16, 17, 63, 64, 64, 65, 66, 255, u64::from(u32::MAX)]);
         if random.one_in(4) {
             self.numbers[random.below(CODED)] = random.pick(&EDGES);
         }
@@ -74,7 +83,7 @@ impl Case {
     }
 
     fn used(&self) -> usize {
-        self.numbers[ENTRY_COUNT].min(16) as usize
+        self.numbers[ENTRY_COUNT].min(MAX_ENTRIES as u64) as usize
     }
 
     /// Puts the parts anywhere into a new source, where they may overlap. The tag 5 payload comes last, so

@@ -82,7 +82,7 @@ fn parts(file: &[u8], record: &Record, random: &mut Random, case: &dyn Fn() -> S
     }
     part(file, used.len(), None, case);
     // Far past the last, too: an index cut to fewer bits would find an entry.
-    let far = random.below(used.len() + 1) + (1 << random.within(5, usize::BITS as usize - 1));
+    let far = random.below(used.len() + 1) + (1 << random.within(7, usize::BITS as usize - 1));
     part(file, far, None, case);
     let mut walk = bpg::entries(file);
     for entry in used {
@@ -98,8 +98,10 @@ fn parts(file: &[u8], record: &Record, random: &mut Random, case: &dyn Fn() -> S
 fn part(file: &[u8], k: usize, entry: Option<Entry>, case: &dyn Fn() -> String) {
     let found = bpg::entry(file, k);
     same("an entry", case, found.as_ref().map(plain_entry), entry);
-    let Entry { tag, payload } = entry.unwrap_or_default();
-    let numbers = (entry.is_some(), [tag, payload.start, payload.length]);
+    let of = entry.unwrap_or_default();
+    let payload = of.payload;
+    let list = [of.tag, payload.start, payload.length, of.tag_offset];
+    let numbers = (entry.is_some(), list);
     same("its numbers", case, bpg::ffi::entry(file, k), numbers);
     let range = payload.range();
     same_part("a payload", case, bpg::payload(file, k), &file[range]);

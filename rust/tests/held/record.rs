@@ -36,6 +36,7 @@ pub fn plain_entry(entry: &bpg::Entry) -> plain::Entry {
     plain::Entry {
         tag: entry.tag(),
         payload: plain_span(entry.span()),
+        tag_offset: entry.tag_offset(),
     }
 }
 
@@ -80,13 +81,14 @@ fn plain_header(header: &bpg::HevcHeader) -> plain::HevcHeader {
     }
 }
 
-/// Of a record with at most 16 entries.
+/// Of a record whose entries fit.
 pub fn package_of(from: &plain::Record) -> bpg::Record {
     let mut record = bpg::Record::new();
     for entry in from.used().expect("the entries fit") {
         let plain::Span { start, length } = entry.payload;
-        let entry = bpg::Entry::new(entry.tag, bpg::Span { start, length });
-        record.push_entry(entry).expect("the entries fit");
+        let mut new = bpg::Entry::new(entry.tag, bpg::Span { start, length });
+        new.set_tag_offset(entry.tag_offset);
+        record.push_entry(new).expect("the entries fit");
     }
     record.set_pixel_format(from.pixel_format);
     record.set_alpha1_flag(from.alpha1_flag);

@@ -43,7 +43,9 @@ fn inside(record: &Record, used: &[Entry], source: &[u8]) -> bool {
 /// No unused or absent field is set, and no presence flag contradicts another.
 fn consistent(record: &Record, used: &[Entry]) -> bool {
     let unused = &record.entries[used.len()..];
-    unused.iter().all(|entry| *entry == Entry::default())
+    unused
+        .iter()
+        .all(|entry| (entry.tag, entry.payload) == (0, Span::default()))
         && (record.extension_present_flag || used.is_empty())
         && (loop_of(record) == [0; 3] || used.iter().any(|entry| entry.tag == 5))
         && (record.has_alpha() || record.alpha_header == HevcHeader::default())

@@ -11,7 +11,7 @@ use super::refuse;
 pub const FIXED: usize = 69;
 
 /// The numbers of an entry.
-pub const ENTRY: usize = 3;
+pub const ENTRY: usize = 4;
 
 /// The numbers of a record whose entries are all in use.
 pub const NUMBERS: usize = FIXED + ENTRY * MAX_ENTRIES;
@@ -34,7 +34,8 @@ pub fn put_list(record: &Record, list: &mut [u64]) -> Result<(), Refusal> {
     fill(fixed, record);
     for (numbers, entry) in entries.chunks_exact_mut(ENTRY).zip(used) {
         let Span { start, length } = entry.payload;
-        numbers.copy_from_slice(&[entry.tag.into(), start.into(), length.into()]);
+        let list = [entry.tag, start, length, entry.tag_offset];
+        numbers.copy_from_slice(&list.map(u64::from));
     }
     Ok(())
 }
@@ -134,7 +135,7 @@ impl Numbers<'_> {
             coded_width: self.next()?,
             coded_height: self.next()?,
             entry_count: self.next()?,
-            entries: Default::default(),
+            entries: [Entry::default(); MAX_ENTRIES],
         })
     }
 
@@ -161,6 +162,7 @@ impl Numbers<'_> {
         Some(Entry {
             tag: self.next()?,
             payload: self.span()?,
+            tag_offset: self.next()?,
         })
     }
 

@@ -107,6 +107,7 @@ fn block(cursor: &mut Cursor, record: &mut Record) -> Result<(), Refusal> {
         *slot = Entry {
             tag,
             payload: span(payload, length),
+            tag_offset: tag_at as u32,
         };
         block.at += length;
         count += 1;

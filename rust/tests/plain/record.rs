@@ -3,7 +3,7 @@
 use std::ops::Range;
 
 /// The most extension entries that a file may have.
-pub const MAX_ENTRIES: usize = 16;
+pub const MAX_ENTRIES: usize = 64;
 
 /// A part of a file or of a source: where it starts and how many bytes it has.
 #[derive(Clone, Copy, Debug, Default, PartialEq, Eq)]
@@ -20,11 +20,12 @@ impl Span {
     }
 }
 
-/// An extension entry: its tag, and where its payload stands.
+/// An extension entry: its tag, where its payload stands, and where its tag begins, at which writing does not look.
 #[derive(Clone, Copy, Debug, Default, PartialEq, Eq)]
 pub struct Entry {
     pub tag: u32,
     pub payload: Span,
+    pub tag_offset: u32,
 }
 
 /// A HEVC header. Fields that are not in the file are zero.
@@ -51,7 +52,7 @@ pub struct HevcHeader {
 }
 
 /// The record of a file: every field as coded, except the lengths, which follow from the rest.
-#[derive(Clone, Copy, Debug, Default, PartialEq, Eq)]
+#[derive(Clone, Copy, Debug, PartialEq, Eq)]
 pub struct Record {
     pub pixel_format: u8,
     pub alpha1_flag: bool,
@@ -74,6 +75,34 @@ pub struct Record {
     pub data: Span,
     pub coded_width: u64,
     pub coded_height: u64,
+}
+
+impl Default for Record {
+    fn default() -> Record {
+        Record {
+            pixel_format: 0,
+            alpha1_flag: false,
+            bit_depth_minus_8: 0,
+            color_space: 0,
+            extension_present_flag: false,
+            alpha2_flag: false,
+            limited_range_flag: false,
+            animation_flag: false,
+            picture_width: 0,
+            picture_height: 0,
+            explicit_length: false,
+            entry_count: 0,
+            entries: [Entry::default(); MAX_ENTRIES],
+            loop_count: 0,
+            frame_period_num: 0,
+            frame_period_den: 0,
+            alpha_header: HevcHeader::default(),
+            color_header: HevcHeader::default(),
+            data: Span::default(),
+            coded_width: 0,
+            coded_height: 0,
+        }
+    }
 }
 
 impl Record {

@@ -5,10 +5,10 @@ use Rattle.bpg_call_examples.proofs.calls.show_entries.Statement.{state
 use Rattle.bpg_call_examples.proofs.calls.show_entries.Tie as tie
 
 abbrev Inv-loop : tie.InvT-loop
-Inv-loop file k₀ k = k ≤ 18
+Inv-loop file k₀ k = k ≤ 66
 
 abbrev μ-loop : tie.MeasureT-loop
-μ-loop file k₀ k = 18 - k
+μ-loop file k₀ k = 66 - k
 
 pub show-entries-spec : {M : Type 1} → statement M
 show-entries-spec =

@@ -20,15 +20,15 @@ use Rattle.bpg_cursor.proofs.step.step_at.Tie as tie
 abbrev found : EntryReading → Step
 found t = record { answer = EntryAt.Found (t .entry); next = t .next }
 
-module _ (region : List ℕ) (p : ℕ) (t : EntryReading) (e : t ≡ entryHeadAnswer (entryIn region p)) where
+module _ (region : List ℕ) (p : ℕ) (t : EntryReading) (e : t ≡ entryHeadAnswer p (entryIn region p)) where
   step-absent : t .status ≢ 0 → stepOf p (error 0 0) ≡ stepAt region p
-  step-absent n = refused-error entryHeadAnswer (λ x. x .status) (λ _. refl) (λ _ _. refl) (entryIn region p) t e n λ s o w. rw w
+  step-absent n = refused-error (entryHeadAnswer p) (λ x. x .status) (λ _. refl) (λ _ _. refl) (entryIn region p) t e n λ s o w. rw w
 
   step-found : t .status ≡ 0 → found t ≡ stepAt region p
   step-found z =
-      accepted-value entryHeadAnswer (λ x. x .status) (λ _. refl) (λ _ _. refl) (entryIn region p) t e z
+      accepted-value (entryHeadAnswer p) (λ x. x .status) (λ _. refl) (λ _ _. refl) (entryIn region p) t e z
       (λ s o w k. omega (arith, entry-refuses region p s o w)) λ x w.
-      ap found (e ∙ ap entryHeadAnswer w) ∙ ap (stepOf p) (sym w)
+      ap found (e ∙ ap (entryHeadAnswer p) w) ∙ ap (stepOf p) (sym w)
 
 returns : tie.Need-returns
 returns c = let r = c .before .before in step-absent _ _ (r .read-checked .result) (r .read-checked .ensures) (c .if1 .taken)

@@ -8,10 +8,10 @@ use Rattle.bpg_examples.proofs.case.entries.Statement.{statement}
 use Rattle.bpg_examples.proofs.case.entries.Tie as tie
 
 abbrev Inv-loop : tie.InvT-loop
-Inv-loop s at all₀ k₀ all k = (k ≤ 16) × (length all ≡ maxEntries)
+Inv-loop s count all₀ k₀ all k = (k ≤ count) × (length all ≡ maxEntries)
 
 abbrev μ-loop : tie.MeasureT-loop
-μ-loop s at all₀ k₀ all k = 16 - k
+μ-loop s count all₀ k₀ all k = count - k
 
 pub entries-spec : {M : Type 1} → statement M
 entries-spec =

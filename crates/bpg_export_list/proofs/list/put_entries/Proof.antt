@@ -45,7 +45,7 @@ array-copy-out-entry c = omega (arith, whole (c .before .before .before .before)
 loop-again : tie.Need-loop-again Inv-loop μ-loop
 loop-again c =
     let w = c .before .before in
-    let t = w .before .before .before .before .before .before .before in
+    let t = w .before .before .before .before .before .before .before .before in
     let s = t .before .before .before .before in
     let l = t .before .loop in
     let written = entry-written (out s) (es s) (s .args .used) (omega (arith, s .pre .0, whole s)) (s .pre .1) (l .k) _ (l .out) _ (t .loop-test .taken) (l .inv .1) (w .put .ensures) in
@@ -69,6 +69,6 @@ pub put-entries-spec : {M : Type 1} → statement M
 put-entries-spec =
     tie.close
     (tie.spec
-    Inv-loop μ-loop loop-holds (λ c. omega arith) array-copy-out-entry (λ c. search needs)
+    Inv-loop μ-loop loop-holds (λ c. omega arith) array-copy-out-entry (λ c. search needs) (λ c. search needs)
     (λ c. search needs) (λ c. search needs) (λ c. omega arith) (λ c. omega arith) (λ c. search needs)
     (λ c κs. search needs) (λ c. omega arith) (λ c. omega arith) loop-again same-length returns)

@@ -34,8 +34,8 @@ returns-4 c =
     (omega (arith, c .if4 .taken, n .u32-at .ensures))
 
 -- the entries' numbers, as they were lent
-lent : (l : List ℕ) (n : ℕ) → n ≡ countOf l → take (listLength n - fixedLength) (drop fixedLength l) ≡ take (3 * countOf l) (drop fixedLength l)
-lent l n e = let k : listLength n - fixedLength ≡ 3 * countOf l = omega arith in ap (λ (m : ℕ). take m (drop fixedLength l)) k
+lent : (l : List ℕ) (n : ℕ) → n ≡ countOf l → take (listLength n - fixedLength) (drop fixedLength l) ≡ take (4 * countOf l) (drop fixedLength l)
+lent l n e = let k : listLength n - fixedLength ≡ 4 * countOf l = omega arith in ap (λ (m : ℕ). take m (drop fixedLength l)) k
 
 returns-5 : tie.Need-returns-5
 returns-5 c =

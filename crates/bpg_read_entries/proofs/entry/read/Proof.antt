@@ -67,7 +67,8 @@ returns c =
 found-requires : tie.Need-found-requires
 found-requires c κs =
     let d = c .before .before in
-    omega (arith, inside d, c .if1 .left, start (first d) .pre .0)
+    let s = start (first d) in
+    (omega (arith, s .pre), omega (arith, inside d, c .if1 .left, s .pre .0))
 
 returns-2 : tie.Need-returns-2
 returns-2 c =

@@ -13,7 +13,7 @@ use Rattle.bpg_reader.specs.Bodies.{headFields, headersStart}
 use Rattle.bpg_reader.proofs.BodyChain.{headersOf}
 use Rattle.bpg_reader.proofs.BodyLaws.{BlockRead, block-refused, block-read, no-control, length-misses, AtHeaders, at-headers, headers-read}
 use Rattle.bpg_reader.proofs.BodyLaws.{BodyRead, stopped, body-known}
-use Rattle.bpg_reader.proofs.BodyRecord.{min-cb-small, body-read}
+use Rattle.bpg_reader.proofs.BodyRecord.{body-survey}
 use borrow.Author.Needs.{needs}
 use Rattle.bpg_reader.proofs.rest.read.Statement.{statement}
 use Rattle.bpg_reader.proofs.rest.read.Tie as tie
@@ -75,12 +75,12 @@ after-body c =
 returns : tie.Need-returns
 returns c =
     let e = c .before .before .before in
-    c .reading-refused .ensures ∙ block-refused (e .before .before .pre) (block e) (e .entries .ensures) (c .before .if1 .taken)
+    c .refused .ensures ∙ block-refused (e .before .before .pre) (block e) (e .entries .ensures) (c .before .if1 .taken)
 
 returns-2 : tie.Need-returns-2
 returns-2 c =
     let k = c .before .before in
-    c .reading-refused2 .ensures ∙ no-control (after-block (k .before)) (sym (k .control-fits .ensures) ∙ not-true _ (c .before .if2 .taken))
+    c .refused2 .ensures ∙ no-control (after-block (k .before)) (sym (k .control-fits .ensures) ∙ not-true _ (c .before .if2 .taken))
 
 add-start : tie.Need-add-start
 add-start c = let k = after-block (c .before .before .before .before) in omega (arith, k .inside, k .head .short)
@@ -92,7 +92,7 @@ returns-3 : tie.Need-returns-3
 returns-3 c =
     let d = c .before .before in
     let k = d .before .before .before in
-    c .reading-refused3 .ensures
+    c .refused3 .ensures
     ∙ length-misses (after-block (k .before .before)) (controlled k) (sym (d .reaches-end .ensures) ∙ not-true _ (c .before .if3 .taken))
 
 after-headers-requires : tie.Need-after-headers-requires
@@ -102,14 +102,11 @@ returns-4 : tie.Need-returns-4
 returns-4 c =
     let d = c .before .before .before in
     let r = reading d in
-    c .reading-refused4 .ensures
+    c .refused4 .ensures
     ∙ stopped (after-length (counted r)) (r .read .result) (headers-are r) (d .after-headers .result) (d .after-headers .ensures) (c .before .if4 .taken)
 
-assemble-requires : tie.Need-assemble-requires
-assemble-requires c κs = let k = after-body c in (k .block .head .short, (k .inside, min-cb-small k))
-
 returns-5 : tie.Need-returns-5
-returns-5 c = c .assemble .ensures ∙ body-read (begun (c .before .before .before) .before .before .args .head) (after-body (c .before))
+returns-5 c = body-survey (after-body c)
 
 pub read-spec : {M : Type 1} → statement M
 read-spec =
@@ -133,5 +130,4 @@ read-spec =
     after-headers-requires
     (λ c κs. search needs)
     returns-4
-    assemble-requires
     returns-5)
