@@ -22,6 +22,7 @@ pub fn read(region: &[u8], at: BitPos, n: u32) -> BitNumber
     }
     let byte = byte_of(at).0;
     let two = wide(byte_at(region, byte)) * 256 + wide(byte_at(region, byte + 1));
-    let value = (two >> (16 - start % 8 - width)) % (1u64 << width);
-    BitNumber::Value(value as u32, BitPos(start + width))
+    let value = ((two >> (16 - start % 8 - width)) % (1u64 << width)) as u32;
+    let past = start + width;
+    BitNumber::Value(value, BitPos(past))
 }

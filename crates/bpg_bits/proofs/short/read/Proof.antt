@@ -43,8 +43,8 @@ returns c =
 rem-value : tie.Need-rem-value
 rem-value c = rw (power c) (pow-pos (width c))
 
-cast-t20 : tie.Need-cast-t20
-cast-t20 c = rw (power c) (record { fits = short-small _ (width c) (omega arith) })
+cast-value : tie.Need-cast-value
+cast-value c = rw (power c) (record { fits = short-small _ (width c) (omega arith) })
 
 returns-2 : tie.Need-returns-2
 returns-2 c =
@@ -76,6 +76,6 @@ read-spec =
     (λ c. search needs)
     (λ c. search needs)
     rem-value
-    cast-t20
+    cast-value
     (λ c. search needs)
     returns-2)
