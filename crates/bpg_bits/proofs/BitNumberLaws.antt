@@ -8,18 +8,22 @@ use native.Mathlib.Nat.{add-zero, zero-add, div-eq-of-lt}
 use native.Mathlib.Omega.{arith}
 use lib.Count.{leadingZeros, leading-top}
 use lib.Dec.{leb, leb→le}
-use lib.ListN.{length, take, getD, length-append, length-replicate, length-take, take-append-drop}
+use lib.ListN.{length, take, drop, getD, length-append, length-replicate, length-take, length-drop, take-append-drop}
 use lib.Pow.{pow-pos, pow-mono, high, low as low′}
 use lib.Seq.{getD-take, length-take-le, take-at, drop-at}
-use borrow.Author.Tests.{lt-ltb, le-ltb, le-leb}
+use borrow.Author.Tests.{lt-ltb, le-ltb, le-leb, lt-leb}
 use Rattle.bpg_codec.specs.Outcome.{Outcome, ok, error, _>>=_, Decoded, decoded}
+use Rattle.bpg_codec.specs.Codec.{decodeAt}
 use Rattle.bpg_codec.specs.Lawful.{Found, Lawful}
-use Rattle.bpg_codec.specs.Bits.{Bit, bits, zeros, unpack}
+use Rattle.bpg_codec.specs.Bits.{Bit, number, bits, zeros, unpack}
 use Rattle.bpg_codec.proofs.Select.{select-true, select-false}
 use Rattle.bpg_codec.proofs.Outcome.{error-not-ok, ok-injective, unbind, unguard}
 use Rattle.bpg_codec.proofs.Lists.{either-way}
 use Rattle.bpg_codec.proofs.Tokens.{all-bits}
 use Rattle.bpg_codec.proofs.Bits.{length-bits, number-bits, number-small, bits-number, bits-append, bits-mod, bits-zero, unpack-take, length-unpack}
+use Rattle.bpg_bytes.specs.Positions.{bitPos}
+use Rattle.bpg_bits.specs.declared.bits.BitNumber.the-variants.{Value, Missing}
+use Rattle.bpg_bits.specs.Answers.{bitAnswer}
 use Rattle.bpg_bits.specs.BitNumbers.{regionBits, unsignedDecode, unsigned, prefixDecode, prefixZeros, expGolombBits, expGolombDecode, expGolomb}
 
 -- ---- u(n)
@@ -41,6 +45,15 @@ module _ (n : ℕ) where
             subst (Found (unsigned n) p l) (ok-injective e1)
             (number-small n (take n l) k, rw (bits-number n (take n l) k, take-append-drop), rw length-bits);
       }
+
+-- ---- what reading u(n) answers
+
+module _ (l : List Bool) (at n : ℕ) where
+  pub unsigned-missing : length l - at < n → Missing ≡ bitAnswer (decodeAt l (unsigned n) 0 at)
+  unsigned-missing h = rw (lt-leb n (length (drop at l)) (rw length-drop h))
+
+  pub unsigned-found : (v : ℕ) → n ≤ length l - at → v ≡ number (take n (drop at l)) → Value v (bitPos (at + n)) ≡ bitAnswer (decodeAt l (unsigned n) 0 at)
+  unsigned-found v h e = rw (le-leb n (length (drop at l)) (rw length-drop h), e)
 
 -- ---- the bits of a region
 

@@ -3,3 +3,5 @@ pub mod BitNumberLaws
 pub mod Refusals
 pub mod Advances
 pub mod Items
+pub mod ShortLaws
+pub mod Requirements

@@ -35,7 +35,8 @@ pub(crate) fn bit_inside(region: &[u8], at: BitPos) -> u64
     (wide(region[byte]) >> (7 - at.0 % 8)) % 2
 }
 
-// The next n bits as a number; n above 32 counts as 32. The item that missing bits are refused at is the caller's, so here it is 0.
+// The next n bits as a number; n above 32 counts as 32. It is for ue(v), whose codes have up to 31 bits after the one: a field of a header has
+// at most eight, and `short` reads it. The item that missing bits are refused at is the caller's, so here it is 0.
 pub fn read(region: &[u8], at: BitPos, n: u32) -> BitNumber
     ensures { λ r. ⌜ r ≡ bitAnswer (decodeAt (regionBits (now (region .entry))) (unsigned (min n 32)) 0 (at .0)) ⌝ }
 {

@@ -22,8 +22,7 @@ fn suffix(region: &[u8], at: BitPos, z: u32) -> BitNumber
     }
 }
 
-// The number at `at`, bit by bit: it is for rare codes and long ones. The block sizes, which every header has, are read
-// from a word where their codes are short.
+// The number at `at`, bit by bit.
 pub fn read(region: &[u8], at: BitPos) -> BitNumber
     ensures { λ r. ⌜ r ≡ bitAnswer (decodeAt (regionBits (now (region .entry))) expGolomb 0 (at .0)) ⌝ }
 {

@@ -1,29 +1,39 @@
--- All fields of a header as a chain of groups, and the limits of those that a byte holds.
+-- All fields of a header as a chain of groups.
 use mathlib.Core.Path.{_≡_, refl, sym, ap, _∙_}
 use mathlib.Core.Bool.{Bool, true, false, true≢false}
 use mathlib.Core.List.{List}
-use Prim.Native.Nat.{ℕ, _<_}
-use native.Mathlib.Omega.{arith}
+use Prim.Native.Nat.{ℕ}
 use lib.Dec.{eqb}
-use lib.ListN.{drop, replicate}
-use Rattle.bpg_codec.specs.Select.{select}
-use Rattle.bpg_codec.specs.Outcome.{Outcome, ok, error, _>>=_, decoded}
+use lib.ListN.{replicate}
+use Rattle.bpg_codec.specs.Outcome.{Outcome, ok, error, _>>=_}
 use Rattle.bpg_codec.specs.Codec.{Codec, decodeAt, atItem}
 use Rattle.bpg_codec.specs.Bits.{Bit, bit}
-use Rattle.bpg_codec.specs.Parts.{sequence, absent, fixed}
-use Rattle.bpg_codec.proofs.Outcome.{bind-assoc, unlocate}
-use Rattle.bpg_codec.proofs.Positions.{Advances, sequence-advances, absent-advances, select-advances, mapped-advances, mapped-at, four-at, five-at, fixed-advances}
-use Rattle.bpg_codec.proofs.Tokens.{all-bits}
+use Rattle.bpg_codec.specs.Parts.{sequence, fixed}
+use Rattle.bpg_codec.proofs.Outcome.{bind-assoc}
+use Rattle.bpg_codec.proofs.Positions.{Advances, sequence-advances, absent-advances, select-advances, mapped-advances, mapped-at, sequence-at, four-at, five-at, fixed-advances}
+use Rattle.bpg_bits.specs.BitNumbers.{unsigned, expGolomb}
 use Rattle.bpg_bits.proofs.Advances.{unsigned-advances, expGolomb-advances}
 use Rattle.bpg_bits.proofs.Items.{missingAt, Itemed, unsigned-items, expGolomb-items, sequence-items, mapped-items, optional-items, fixed-items, at-item}
 use Rattle.bpg_format.specs.declared.record.Header.{Header}
-use Rattle.bpg_format.specs.FileCodec.{oneBit, optional, sizeFields, pcmFields, spsFields, PcmFields, noPcm, noSps, fieldSequence, headerFrom, fieldsOf, headerFields}
-use Rattle.bpg_format.proofs.FileLaws.{optional-lawful, pcm-lawful, sps-lawful}
+use Rattle.bpg_format.specs.FileCodec.{oneBit, optional, sizeFields, pcmFields, spsFields, noPcm, noSps, fieldSequence, headerFrom, fieldsOf, headerFields}
 use Rattle.bpg_read_fields.specs.declared.all_fields.Fields.{Fields}
-use Rattle.bpg_read_fields.specs.AllFields.{restSequence, fieldsAnswer}
-use Rattle.bpg_read_groups.proofs.FieldLaws.{flag-advances}
+use Rattle.bpg_read_fields.specs.AllFields.{fieldsAnswer}
+
+-- the fields from strong intra smoothing on
+abbrev RestTuple : Type 0
+RestTuple = Bool × (Bool × ((Bool × ℕ) × List Bool))
+
+unfoldable pub restSequence : Codec Bool RestTuple
+restSequence =
+    sequence oneBit λ _.
+    sequence oneBit λ sps.
+    sequence (optional sps spsFields noSps) λ x.
+    optional (x .0) (fixed Bit 9 15 atItem) (replicate 9 false)
 
 -- ---- what is left
+
+pub flag-advances : Advances oneBit
+flag-advances = mapped-advances (unsigned-advances 1) (λ v. eqb v 1) bit
 
 sizes-advance : Advances sizeFields
 unfolding sizeFields
@@ -152,25 +162,33 @@ module _ (bits : List Bool) (i p : ℕ) where
   unfolding headerFields
   fields-at = mapped-at bits fieldSequence headerFrom fieldsOf i p ∙ rw sequence-chain (simp bind-assoc)
 
--- ---- limits
+-- ---- the groups
 
-pcm-limit : (b : Bool) (a : PcmFields) → optional b pcmFields noPcm .Valid a → (a .0 < 16) × (a .1 .0 < 16)
-unfolding select absent pcmFields sequence
-pcm-limit true a v = (v .0, v .1 .0)
-pcm-limit false a v = rw v (omega arith, omega arith)
+module _ (bits : List Bool) (p : ℕ) where
+  pub sizes-at : decodeAt bits sizeFields 0 p
+      ≡ (decodeAt bits expGolomb 0 p >>= λ a.
+      decodeAt bits expGolomb 0 (a .1) >>= λ b.
+      decodeAt bits expGolomb 0 (b .1) >>= λ c.
+      decodeAt bits expGolomb 0 (c .1) >>= λ d.
+      decodeAt bits expGolomb 0 (d .1) >>= λ e.
+      ok ((a .0, (b .0, (c .0, (d .0, e .0)))), e .1))
+  unfolding sizeFields
+  sizes-at = let h = expGolomb-advances in five-at bits h (λ _. h) (λ _ _. h) (λ _ _ _. h) expGolomb 0 p
 
-sps-limit : (b : Bool) (a : Bool × ℕ) → optional b spsFields noSps .Valid a → a .1 < 128
-unfolding select absent spsFields sequence
-sps-limit true a v = v .1
-sps-limit false a v = rw v (omega arith)
+  pub pcm-at : decodeAt bits pcmFields 0 p
+      ≡ (decodeAt bits (unsigned 4) 0 p >>= λ a.
+      decodeAt bits (unsigned 4) 0 (a .1) >>= λ b.
+      decodeAt bits expGolomb 0 (b .1) >>= λ c.
+      decodeAt bits expGolomb 0 (c .1) >>= λ d.
+      decodeAt bits oneBit 0 (d .1) >>= λ e.
+      ok ((a .0, (b .0, (c .0, (d .0, e .0)))), e .1))
+  unfolding pcmFields
+  pcm-at = let h = unsigned-advances 4 in let g = expGolomb-advances in five-at bits h (λ _. h) (λ _ _. g) (λ _ _ _. g) oneBit 0 p
 
-module _ (bits : List Bool) (b : Bool) (i p : ℕ) where
-  pub depths-small : (a : PcmFields) (q : ℕ) → decodeAt bits (optional b pcmFields noPcm) i p ≡ ok (a, q) → (a .0 < 16) × (a .1 .0 < 16)
-  depths-small a q e =
-      unlocate (optional b pcmFields noPcm .decode i p (drop p bits)) e λ r e1.
-      pcm-limit b a (optional-lawful b noPcm pcm-lawful .encodes i p (drop p bits) (all-bits (drop p bits)) (decoded a q r) e1 .0)
+  pub sps-at : decodeAt bits spsFields 0 p ≡ (decodeAt bits oneBit 0 p >>= λ a. decodeAt bits (unsigned 7) 0 (a .1) >>= λ b. ok ((a .0, b .0), b .1))
+  unfolding spsFields
+  sps-at = sequence-at bits flag-advances (λ _. unsigned 7) 0 p
 
-  pub seven-small : (a : Bool × ℕ) (q : ℕ) → decodeAt bits (optional b spsFields noSps) i p ≡ ok (a, q) → a .1 < 128
-  seven-small a q e =
-      unlocate (optional b spsFields noSps .decode i p (drop p bits)) e λ r e1.
-      sps-limit b a (optional-lawful b noSps sps-lawful .encodes i p (drop p bits) (all-bits (drop p bits)) (decoded a q r) e1 .0)
+  pub flag-at : {B : Type 0} (k : Bool × ℕ → Outcome B)
+      → (decodeAt bits oneBit 0 p >>= k) ≡ (decodeAt bits (unsigned 1) 0 p >>= λ x. k (eqb (x .0) 1, x .1))
+  flag-at k = rw (mapped-at bits (unsigned 1) (λ v. eqb v 1) bit 0 p) (bind-assoc (decodeAt bits (unsigned 1) 0 p) _ k)

@@ -1,2 +1,5 @@
 -- Laws of the reader of a HEVC header's fields.
 pub mod AllFieldLaws
+pub mod LoopLaws
+pub mod FlagLaws
+pub mod TableLaws

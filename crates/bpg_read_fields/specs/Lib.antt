@@ -1,2 +1,3 @@
 -- What the reader of a HEVC header's fields answers.
 pub mod AllFields
+pub mod Table

@@ -4,19 +4,16 @@ use mathlib.Core.Path.{_≡_, ap, _∙_}
 use mathlib.Core.Bool.{Bool, false}
 use mathlib.Core.List.{List}
 use native.Mathlib.Omega.{arith}
-use lib.ListN.{length, take, drop, getD, length-take, length-drop}
+use lib.ListN.{length, take, drop, getD, length-take}
 use lib.Pow.{pow-mono, pow-pos}
 use borrow.Author.Needs.{needs}
-use borrow.Author.Tests.{le-leb, lt-leb}
 use Rattle.bpg_codec.specs.Codec.{decodeAt}
 use Rattle.bpg_codec.specs.Bits.{bit, number, numberFrom, unpack}
 use Rattle.bpg_codec.proofs.Bits.{bit-small, length-unpack}
 use Rattle.bpg_codec.proofs.Lists.{drop-next}
-use Rattle.bpg_bytes.specs.Positions.{bitPos}
-use Rattle.bpg_bits.specs.declared.bits.BitNumber.the-variants.{Value, Missing}
 use Rattle.bpg_bits.specs.Answers.{bitAnswer}
 use Rattle.bpg_bits.specs.BitNumbers.{regionBits, unsigned}
-use Rattle.bpg_bits.proofs.BitNumberLaws.{region-bit}
+use Rattle.bpg_bits.proofs.BitNumberLaws.{unsigned-missing, unsigned-found, region-bit}
 use Rattle.bpg_bits.proofs.bits.read.Statement.{statement}
 use Rattle.bpg_bits.proofs.bits.read.Tie as tie
 
@@ -36,12 +33,6 @@ step : (l : List Bool) (next past value b n : ℕ) → next < past → past ≤ 
 step l next past value b n h k e i =
     let m : past - next ≡ suc (past - (next + 1)) = omega arith in
     rw e (rw (m, drop-next l next false (omega arith)) at i)
-
-short : (l : List Bool) (at n : ℕ) → length l - at < n → Missing ≡ bitAnswer (decodeAt l (unsigned n) 0 at)
-short l at n h = rw (lt-leb n (length (drop at l)) (rw length-drop h))
-
-found : (l : List Bool) (at n v : ℕ) → n ≤ length l - at → v ≡ number (take n (drop at l)) → Value v (bitPos (at + n)) ≡ bitAnswer (decodeAt l (unsigned n) 0 at)
-found l at n v h e = rw (le-leb n (length (drop at l)) (rw length-drop h), e)
 
 ends : (l : List Bool) (next past value n : ℕ) → past ≤ next → numberFrom value (take (past - next) (drop next l)) ≡ n → value ≡ n
 ends l next past value n h i = let z : past - next ≡ 0 = omega arith in rw z at i
@@ -64,7 +55,7 @@ one-bit c =
 
 returns : tie.Need-returns Inv-loop μ-loop
 returns c = let a = c .before .before .before .before .before .args in
-    short (regionBits (a .region .now)) (a .at .0) (min (a .n) 32) (omega arith)
+    unsigned-missing (regionBits (a .region .now)) (a .at .0) (min (a .n) 32) (omega arith)
 
 loop-holds : tie.Need-loop-holds Inv-loop μ-loop
 loop-holds c = let st = c .before .before .before .before .before in
@@ -97,7 +88,7 @@ returns-2 : tie.Need-returns-2 Inv-loop μ-loop
 returns-2 c = let l = c .before .loop in
     let a = c .before .before .before .before .before .before .before .args in
     let w = c .before .before .before .before .before .least in
-    found (regionBits (a .region .now)) (a .at .0) (w .result) (l .value) (omega arith) (ends (regionBits (a .region .now)) (l .next) _ (l .value) _ (c .loop-test .left) (l .inv .3))
+    unsigned-found (regionBits (a .region .now)) (a .at .0) (w .result) (l .value) (omega arith) (ends (regionBits (a .region .now)) (l .next) _ (l .value) _ (c .loop-test .left) (l .inv .3))
     ∙ ap (λ (n : ℕ). bitAnswer (decodeAt (regionBits (a .region .now)) (unsigned n) 0 (a .at .0))) (w .ensures)
 
 pub read-spec : {M : Type 1} → statement M

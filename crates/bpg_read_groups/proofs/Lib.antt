@@ -1,2 +1,0 @@
--- Laws of the readers of groups of fields.
-pub mod FieldLaws

@@ -1,2 +1,0 @@
--- What the readers of groups of fields answer.
-pub mod Fields

@@ -1,2 +1,0 @@
--- Laws of the reader of the block sizes.
-pub mod SizeLaws

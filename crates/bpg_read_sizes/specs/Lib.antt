@@ -1,2 +1,0 @@
--- What the reader of the block sizes goes by.
-pub mod Sizes

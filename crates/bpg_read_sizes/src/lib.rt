@@ -1,2 +1,0 @@
-// The block sizes of a HEVC header, read from its bits.
-pub mod sizes;
