@@ -56,6 +56,7 @@ fn constants_are_those_of_the_header() {
     let constants = [
         ("BPG_MAX_FILE", bpg::MAX_FILE),
         ("BPG_MAX_ENTRIES", bpg::MAX_ENTRIES),
+        ("BPG_HEAD_BYTES", bpg::HEAD_BYTES),
         ("BPG_TAG_EXIF", tag::EXIF as usize),
         ("BPG_TAG_ICC_PROFILE", tag::ICC_PROFILE as usize),
         ("BPG_TAG_XMP", tag::XMP as usize),

@@ -17,6 +17,7 @@ use Rattle.bpg_codec.proofs.Tokens.{all-drop}
 use Rattle.bpg_ue7.specs.Ue7.{ue7Rest, ue7Decode, notZero}
 use Rattle.bpg_format.specs.Read.{readFlags, Head, readHead}
 use Rattle.bpg_read_head.specs.Heads.{readExtensionLength}
+use Rattle.bpg_read_head.specs.Requirements.{enoughBytes}
 
 -- m bytes more take a value above its limit, whatever they are
 abbrev Large : (m v : ℕ) → Type 0
@@ -103,7 +104,7 @@ module _ (end : ℕ) where
   pub after-flags : (l : List ℕ) → 6 ≤ end → drop 6 (take end l) ≡ take (end - 6) (drop 6 l)
   after-flags l k = let e : 6 + (end - 6) ≡ end = omega arith in sym (take-drop (end - 6) 6 l ∙ ap (λ (n : ℕ). drop 6 (take n l)) e)
 
-  pub first-bytes : (l : List ℕ) → All Byte l → 27 ≤ end → readHead (take end l) ≡ readHead l
+  pub first-bytes : (l : List ℕ) → All Byte l → enoughBytes ≤ end → readHead (take end l) ≡ readHead l
   unfolding readHead
   first-bytes l all k =
       rw (flags-agree l (omega arith), after-flags l (omega arith))

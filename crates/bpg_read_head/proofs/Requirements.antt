@@ -10,18 +10,22 @@ use Rattle.bpg_codec.specs.Lawful.{All, Byte}
 use Rattle.bpg_ue7.specs.Ue7.{ue7Rest, ue7Decode}
 use Rattle.bpg_format.specs.Read.{Head, readFlags, readHead}
 use Rattle.bpg_read_head.specs.Calls.{refusedHeadReading, headReading, headFile, HeadStatus}
-use Rattle.bpg_read_head.specs.Requirements.{longest, HeadCall}
+use Rattle.bpg_read_head.specs.Requirements.{longest, enoughBytes, oversize, HeadCall}
 use Rattle.bpg_read_head.proofs.HeadRefusals.{head-refuses}
 use Rattle.bpg_read_head.proofs.PrefixLaws.{first-bytes}
 use Rattle.bpg_read_head.proofs.OwnBytes.{own-bytes}
 
-enough : (f : List ℕ) → All Byte f → (n : ℕ) → 27 ≤ n → headFile (take n f) ≡ headFile f
+enough : (f : List ℕ) → All Byte f → (n : ℕ) → enoughBytes ≤ n → headFile (take n f) ≡ headFile f
 unfolding headFile
 enough f bytes n h = ap headReading (first-bytes n f bytes h)
 
 needed : (headFile (take 26 longest) ≡ refusedHeadReading 2 26) × (headFile longest ≡ refusedHeadReading 8 26)
 unfolding headFile readHead readFlags ue7Decode ue7Rest select
 needed = (refl, refl)
+
+never-oversize : (headFile oversize .status ≡ 0) × (headFile oversize .head .«extension_length» ≡ 127)
+unfolding headFile readHead readFlags ue7Decode ue7Rest select
+never-oversize = (refl, refl)
 
 pub refused : (f : List ℕ) → headFile f .status ≢ 0 → headFile f ≡ refusedHeadReading (headFile f .status) (headFile f .offset)
 unfolding headFile
@@ -44,4 +48,4 @@ unfolding headFile
 alone f h e = ap headReading (own-bytes f h e ∙ sym e)
 
 pub head-call : HeadCall
-head-call = record { enough = enough; needed = needed; refused = refused; number = number; alone = alone }
+head-call = record { enough = enough; needed = needed; refused = refused; number = number; never-oversize = never-oversize; alone = alone }
