@@ -1,0 +1,3 @@
+-- The laws of export.
+pub mod TagLaws
+pub mod CallLaws
