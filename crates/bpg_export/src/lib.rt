@@ -2,6 +2,7 @@
 mod batch;
 mod frames;
 mod samples;
+mod segments;
 mod sizes;
 mod thumbnails;
 
