@@ -4,4 +4,5 @@ pub mod SegmentLaws
 pub mod ChunkLaws
 pub mod RunLaws
 pub mod ExportLaws
+pub mod Examples
 pub mod Requirements

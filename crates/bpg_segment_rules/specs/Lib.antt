@@ -3,4 +3,5 @@ pub mod Segments
 pub mod Runs
 pub mod Calls
 pub mod Skipping
+pub mod Examples
 pub mod Requirements
