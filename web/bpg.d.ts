@@ -145,6 +145,12 @@ export class Bpg {
   /** Reads the files that stand end to end in a buffer and have these lengths: for each its refusal, or null where it is accepted. */
   batch(buffer: Uint8Array, lengths: ArrayLike<number>): (BpgRefusal | null)[];
 
+  /** The EXIF, XMP and ICC payloads of a file as JPEG segments, in this order, for a JPEG after its first two bytes. */
+  exportSegments(file: Uint8Array, out?: Uint8Array): Uint8Array;
+
+  /** The payloads of a run of such segments, each in a new array; an absent one is empty. */
+  importSegments(run: Uint8Array): { exif: Uint8Array; xmp: Uint8Array; icc: Uint8Array };
+
   /** The bytes of a NAL unit without its emulation prevention bytes. */
   unescape(unit: Uint8Array, out?: Uint8Array): Uint8Array;
 

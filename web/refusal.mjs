@@ -31,6 +31,9 @@ const REASONS = {
   28: ['BadThumbnail', 'a thumbnail is itself refused'],
   29: ['LargeThumbnail', 'a thumbnail is wider or taller than its parent, or of its size'],
   30: ['BadBatch', 'the lengths do not add up to the buffer, or the lists differ in length'],
+  34: ['PayloadTooLong', 'a payload is too long for JPEG segments'],
+  35: ['TagTwice', 'an EXIF, XMP or ICC profile entry stands twice'],
+  36: ['BadSegments', 'the run is not one of EXIF, XMP and ICC segments as export makes it'],
 };
 
 /** A call's refusal: its number, the offset in the file of what was refused (0 where none is named), its name and its words. */

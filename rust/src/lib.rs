@@ -56,6 +56,7 @@ mod read;
 mod record;
 mod refusal;
 pub mod samples;
+mod segments;
 mod span;
 mod thumbnails;
 mod write;
@@ -74,6 +75,9 @@ pub use kinds::{tag, AlphaKind, ColorSpace, PixelFormat, MAX_ENTRIES, MAX_FILE};
 pub use read::{data, entries, entry, payload, read};
 pub use record::Record;
 pub use refusal::{Reason, Refusal};
+#[cfg(feature = "alloc")]
+pub use segments::export_segments_to_vec;
+pub use segments::{export_segments, import_segments, Payloads};
 pub use span::Span;
 pub use thumbnails::check_thumbnails;
 pub use write::{canonical_size, canonicalize, write, write_size};

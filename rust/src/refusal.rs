@@ -66,6 +66,9 @@ reasons! {
     31 UnequalLengths "the planes and buffers of samples differ in length",
     32 BadSampleDepth "the depth of the samples is not 8 to 14",
     33 SampleTooLarge "a sample is above the largest of its depth",
+    34 PayloadTooLong "a payload is too long for JPEG segments",
+    35 TagTwice "an EXIF, XMP or ICC profile entry stands twice",
+    36 BadSegments "the run is not one of EXIF, XMP and ICC segments as export makes it",
 }
 
 impl Reason {

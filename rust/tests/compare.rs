@@ -3,7 +3,7 @@
 //!
 //! `BPG_SEED` gives another run; `BPG_FILES`, `BPG_RECORDS`, `BPG_FRAMED` (files whose data is made of units,
 //! for the calls on frames), `BPG_SLICES` (for emulation prevention), `BPG_NESTED` (files with thumbnails),
-//! `BPG_BATCHES` and `BPG_SAMPLES` another number of cases. A difference fails the test and prints the case and both answers.
+//! `BPG_BATCHES`, `BPG_SAMPLES` and `BPG_TAGGED` (files whose metadata is exported) another number of cases. A difference fails the test and prints the case and both answers.
 
 mod cases;
 mod held;
@@ -12,8 +12,8 @@ mod plain;
 use std::env;
 use std::thread;
 
-use cases::{batches, large, nested, records, samples, Random};
-use held::{Buffers, Cases, Statuses, Table, BATCH_STATUSES, SAMPLE_STATUSES, THUMBNAIL_STATUSES};
+use cases::{batches, large, nested, records, samples, segments, Random};
+use held::{Buffers, Cases, Met, Statuses, Table, BATCH_STATUSES, SAMPLE_STATUSES, THUMBNAIL_STATUSES};
 
 const THREADS: u64 = 2;
 
@@ -103,6 +103,27 @@ fn the_calls_on_samples_agree_with_plain_rust() {
         assert!(rare.is_empty(), "met fewer than 100 times: {rare:?}");
     }
     println!("{cases} calls on samples");
+}
+
+#[test]
+fn the_segments_agree_with_plain_rust() {
+    let seed = setting("BPG_SEED", 20_150_425);
+    let files = setting("BPG_TAGGED", 200_000);
+    let mut random = Random::new(seed.wrapping_add(THREADS + 4));
+    let mut buffers = Buffers::new(&mut random, plain::MAX_FILE + (1 << 16));
+    let mut met = Met::default();
+    for _ in 0..files {
+        let file = segments::file(&mut random);
+        held::segments(&file, &mut buffers, &mut random, &mut met);
+    }
+    // As many chunks as there may be, and a byte more.
+    for size in [12 << 20, 255 * 65_519, 255 * 65_519 + 1] {
+        held::long_profile(size, &mut buffers, &mut met);
+    }
+    println!("{}\n{}", met.export, met.import);
+    println!("{files} files with metadata, and the longest profiles");
+    let rare = [met.export.rare(100), met.import.rare(100)].concat();
+    assert!(rare.is_empty(), "met fewer than 100 times: {rare:?}");
 }
 
 fn setting(name: &str, default: u64) -> u64 {

@@ -22,6 +22,8 @@ export const SIGNATURES = {
   bpg_escape: [list(1), outList(1), result(8)],
   bpg_write_size: [list(8), list(1), result(8)],
   bpg_canonical_size: [list(1), result(8), result(8)],
+  bpg_export_segments: [list(1), outList(1), result(8), result(8)],
+  bpg_import_segments: [list(1), outList(1), result(8), result(8), result(8)],
 };
 
 export class Raw {

@@ -142,6 +142,26 @@ function nal(line) {
   same('escape', hex(bpg.escape(bytes(undone))), redone.replace('-', ''));
 }
 
+function exported(line) {
+  const { file, room_size, answer: [status, offset, count], room } = JSON.parse(line);
+  const got = raw.call('bpg_export_segments', bytes(file), filled(room_size));
+  same('exportSegments', `${got.status} ${got.results} ${hex(got.lists[0])}`, `${status} ${count},${offset} ${room}`);
+  const out = filled(room_size);
+  const lent = answer(() => bpg.exportSegments(bytes(file), out), (run) => `0 ${run.length}`);
+  same('exportSegments', `${lent} ${hex(out)}`, `${status === 0 ? `0 ${count}` : `${status} at ${offset}`} ${room}`);
+  if (status !== 20) same('exportSegments', answer(() => bpg.exportSegments(bytes(file)), hex), status === 0 ? room.slice(0, 2 * count) : `${status} at ${offset}`);
+}
+
+function imported(line) {
+  const { run, room_size, answer: [status, offset, , lengths], room } = JSON.parse(line);
+  const got = raw.call('bpg_import_segments', bytes(run), filled(room_size));
+  same('importSegments', `${got.status} ${got.results} ${hex(got.lists[0])}`, `${status} ${lengths} ${room}`);
+  const [exif, xmp, icc] = lengths.map((length) => 2 * length);
+  const wanted = [room.slice(0, exif), room.slice(exif, exif + xmp), room.slice(exif + xmp, exif + xmp + icc)];
+  const show = (payloads) => [payloads.exif, payloads.xmp, payloads.icc].map(hex).join();
+  if (status !== 20) same('importSegments', answer(() => bpg.importSegments(bytes(run)), show), status === 0 ? wanted.join() : `${status} at ${offset}`);
+}
+
 lines('read.txt').forEach(read);
 lines('canonical.txt').forEach(canonical);
 lines('write.jsonl').forEach(write);
@@ -149,6 +169,8 @@ lines('frames.txt').forEach(frames);
 lines('deep.txt').forEach(deep);
 lines('batch.txt').forEach(batch);
 lines('nal.txt').forEach(nal);
+lines('export.jsonl').forEach(exported);
+lines('import.jsonl').forEach(imported);
 const total = Object.values(counts).reduce((sum, count) => sum + count, 0);
 console.log(`vectors: ${total} answers (${Object.entries(counts).map(([name, count]) => `${name} ${count}`).join(', ')}), ${bad} differ`);
 process.exit(bad === 0 ? 0 : 1);

@@ -6,12 +6,12 @@ pub struct Statuses {
     call: &'static str,
     /// Those that the cases meet.
     met: &'static [usize],
-    counts: [u64; 34],
+    counts: [u64; 37],
 }
 
 impl Statuses {
     pub fn new(call: &'static str, met: &'static [usize]) -> Self {
-        let counts = [0; 34];
+        let counts = [0; 37];
         Statuses { call, met, counts }
     }
 

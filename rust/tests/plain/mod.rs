@@ -17,6 +17,7 @@ mod nal;
 mod reader;
 mod record;
 pub mod samples;
+mod segments;
 mod sei;
 mod thumbnails;
 mod writer;
@@ -28,6 +29,7 @@ pub use frames::{frame_count, frames};
 pub use list::{read_list, record_of, ENTRY, FIXED, NUMBERS};
 pub use reader::read;
 pub use record::{Entry, HevcHeader, Record, Span, MAX_ENTRIES};
+pub use segments::{export_segments, import_segments};
 pub use thumbnails::check_thumbnails;
 pub use writer::{write, write_list, write_list_size, write_size};
 
