@@ -471,6 +471,27 @@ static void batches(void) {
     CHECK(statuses[0] == BPG_OK && offsets[0] == 0 && statuses[1] == BPG_TRUNCATED && offsets[1] == 9);
 }
 
+/* One pixel of each rule, worked out by hand, and each refusal with its buffers kept. */
+static void samples(void) {
+    static const uint16_t r[] = {64}, g[] = {128}, b[] = {7}, a[] = {128}, w[] = {175}, y[] = {255}, cg[] = {0}, large[] = {256};
+    uint16_t p[1] = {7777}, q[1] = {7777}, s[1] = {7777}, t[1] = {7777};
+    ANSWERED(bpg_unpremultiply(r, 1, g, 1, b, 1, a, 0, p, 1, q, 1, s, 1, 15), BPG_UNEQUAL_LENGTHS);
+    ANSWERED(bpg_cmyk(r, 1, g, 1, b, 1, large, 1, p, 1, q, 1, s, 1, t, 1, 15), BPG_BAD_SAMPLE_DEPTH);
+    ANSWERED(bpg_default_from_white(r, 1, g, 1, b, 1, large, 1, p, 1, q, 1, s, 1, 8), BPG_SAMPLE_TOO_LARGE);
+    ANSWERED(bpg_limited_luma(large, 1, p, 1), BPG_SAMPLE_TOO_LARGE);
+    CHECK(p[0] == 7777 && q[0] == 7777 && s[0] == 7777 && t[0] == 7777);
+    ANSWERED(bpg_unpremultiply(r, 1, g, 1, b, 1, a, 1, p, 1, q, 1, s, 1, 8), BPG_OK);
+    CHECK(p[0] == 128 && q[0] == 255 && s[0] == 14);
+    ANSWERED(bpg_cmyk(r, 1, g, 1, b, 1, w, 1, p, 1, q, 1, s, 1, t, 1, 8), BPG_OK);
+    CHECK(p[0] == 191 && q[0] == 127 && s[0] == 248 && t[0] == 80);
+    ANSWERED(bpg_default_from_white(r, 1, g, 1, b, 1, w, 1, p, 1, q, 1, s, 1, 8), BPG_OK);
+    CHECK(p[0] == 44 && q[0] == 88 && s[0] == 5);
+    ANSWERED(bpg_ycgco(y, 1, cg, 1, y, 1, p, 1, q, 1, s, 1, 8), BPG_OK);
+    CHECK(p[0] == 255 && q[0] == 127 && s[0] == 255);
+    ANSWERED(bpg_limited_luma(g, 1, p, 1), BPG_OK);
+    CHECK(p[0] == 130);
+}
+
 static void escapes(void) {
     static const uint8_t bytes[] = {0x26, 0x00, 0x00, 0x01}, unit[] = {0x26, 0x00, 0x00, 0x03, 0x01};
     uint8_t out[sizeof unit];
@@ -577,6 +598,7 @@ int main(void) {
     frame_examples();
     thumbnails();
     batches();
+    samples();
     escapes();
     segments();
     statuses();

@@ -4,8 +4,8 @@
  * proved, for every input. The proof does not cover
  *   - a pointer that is null or not aligned (with a length of 0 pass any valid address), or memory that is shorter than its length says;
  *   - memory that is written and overlaps anything else that is passed: out, or a list (numbers, durations), with file, source, unit, bytes,
- *     run or numbers; the two lists of bpg_batch with each other, buffer or lengths; the results (*offset, *count, *tag, *start, *length, *exif_len, ..) with
- *     each other or with these;
+ *     run or numbers; the two lists of bpg_batch with each other, buffer or lengths; a buffer of the calls on samples with another buffer or a
+ *     plane; the results (*offset, *count, *tag, *start, *length, *exif_len, ..) with each other or with these;
  *   - memory that another thread changes during a call;
  *   - this header itself: its declarations, and the inline functions, which are plain C over the proved ones. c/test compiles it as C and
  *     as C++ and runs all of it.
@@ -102,6 +102,9 @@ enum bpg_alpha_kind {
     X(BPG_BAD_THUMBNAIL, 28, "a thumbnail is itself refused") \
     X(BPG_LARGE_THUMBNAIL, 29, "a thumbnail is wider or taller than its parent, or of its size") \
     X(BPG_BAD_BATCH, 30, "the lengths do not add up to the buffer, or the lists differ in length") \
+    X(BPG_UNEQUAL_LENGTHS, 31, "the planes and buffers of samples differ in length") \
+    X(BPG_BAD_SAMPLE_DEPTH, 32, "the depth of the samples is not 8 to 14") \
+    X(BPG_SAMPLE_TOO_LARGE, 33, "a sample is above the largest of its depth") \
     X(BPG_PAYLOAD_TOO_LONG, 34, "a payload is too long for JPEG segments") \
     X(BPG_TAG_TWICE, 35, "an EXIF, XMP or ICC profile entry stands twice") \
     X(BPG_BAD_SEGMENTS, 36, "the run is not one of EXIF, XMP and ICC segments as export makes it")
@@ -281,6 +284,33 @@ uint8_t bpg_export_segments(const uint8_t *file, size_t file_len, uint8_t *out, 
  * refused. The run must be one that bpg_export_segments can make, with no other segment and no byte more; a buffer as long as the run is always enough.
  * Refusals: 36, then 20. */
 uint8_t bpg_import_segments(const uint8_t *run, size_t run_len, uint8_t *out, size_t out_len, size_t *exif_len, size_t *xmp_len, size_t *icc_len);
+
+/* ---- Samples after decoding: planes of 16-bit samples in, buffers of the same length out. M = 2^depth - 1 is the largest sample. Refusals, in
+ * this order: 31 where the planes and buffers are not all of one length, 32 for a depth that is not 8 to 14, 33 for a sample above M in any
+ * plane. A refusal leaves every buffer as it was. */
+
+/* R, G and B that were multiplied by A, recovered: M where A is 0, else the smaller of M and R * M / A to the nearest, halves up. */
+uint8_t bpg_unpremultiply(const uint16_t *r, size_t r_len, const uint16_t *g, size_t g_len, const uint16_t *b, size_t b_len,
+                          const uint16_t *a, size_t a_len, uint16_t *out_r, size_t out_r_len, uint16_t *out_g, size_t out_g_len,
+                          uint16_t *out_b, size_t out_b_len, uint8_t depth);
+
+/* C, M, Y and K from R, G, B and W: each is M minus its plane. */
+uint8_t bpg_cmyk(const uint16_t *r, size_t r_len, const uint16_t *g, size_t g_len, const uint16_t *b, size_t b_len, const uint16_t *w,
+                 size_t w_len, uint16_t *out_c, size_t out_c_len, uint16_t *out_m, size_t out_m_len, uint16_t *out_y, size_t out_y_len,
+                 uint16_t *out_k, size_t out_k_len, uint8_t depth);
+
+/* The color of a file with the W plane and no color profile: R * W / M to the nearest. */
+uint8_t bpg_default_from_white(const uint16_t *r, size_t r_len, const uint16_t *g, size_t g_len, const uint16_t *b, size_t b_len,
+                               const uint16_t *w, size_t w_len, uint16_t *out_r, size_t out_r_len, uint16_t *out_g, size_t out_g_len,
+                               uint16_t *out_b, size_t out_b_len, uint8_t depth);
+
+/* R, G and B from YCgCo: with 2^(depth - 1) taken from Cg and Co, t = Y - Cg, G = Y + Cg, B = t - Co and R = t + Co; G, B and R are brought
+ * into 0 to M. */
+uint8_t bpg_ycgco(const uint16_t *y, size_t y_len, const uint16_t *cg, size_t cg_len, const uint16_t *co, size_t co_len, uint16_t *out_r,
+                  size_t out_r_len, uint16_t *out_g, size_t out_g_len, uint16_t *out_b, size_t out_b_len, uint8_t depth);
+
+/* Full-range luma from limited luma, both of 8 bits: 0 below 16, 255 above 235, else (y - 16) * 255 / 219 to the nearest. Never 32. */
+uint8_t bpg_limited_luma(const uint16_t *y, size_t y_len, uint16_t *out, size_t out_len);
 
 /* ---- The same over struct bpg_record, and its parts. */
 

@@ -95,6 +95,9 @@ export const MAX_FILE: number;
 /** The most entries that a file may have. */
 export const MAX_ENTRIES: number;
 
+/** Planes of 16-bit samples, or buffers for them. */
+export type Planes<N extends 3 | 4> = N extends 3 ? [Uint16Array, Uint16Array, Uint16Array] : [Uint16Array, Uint16Array, Uint16Array, Uint16Array];
+
 /** That part of the file, as a subarray of the caller's own array. */
 export function part(file: Uint8Array, range: ByteRange): Uint8Array;
 
@@ -156,4 +159,19 @@ export class Bpg {
 
   /** The bytes with emulation prevention bytes, as they stand in a NAL unit. */
   escape(bytes: Uint8Array, out?: Uint8Array): Uint8Array;
+
+  /** R, G and B that were multiplied by A, recovered, from [r, g, b, a]: new arrays, or those of `out`. A depth is 8 to 14. */
+  unpremultiply(planes: Planes<4>, depth: number, out?: Planes<3>): Planes<3>;
+
+  /** C, M, Y and K from [r, g, b, w]. */
+  cmyk(planes: Planes<4>, depth: number, out?: Planes<4>): Planes<4>;
+
+  /** The color of a file with the W plane and no color profile, from [r, g, b, w]. */
+  defaultFromWhite(planes: Planes<4>, depth: number, out?: Planes<3>): Planes<3>;
+
+  /** R, G and B from [y, cg, co]. */
+  ycgco(planes: Planes<3>, depth: number, out?: Planes<3>): Planes<3>;
+
+  /** Full-range luma from limited luma, both of 8 bits: a new array, or `out`. */
+  limitedLuma(y: Uint16Array, out?: Uint16Array): Uint16Array;
 }

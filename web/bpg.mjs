@@ -44,10 +44,23 @@ async function moduleBytes(source) {
 const NO_RANGE = { start: 0, length: 0 };
 const LIST_LENGTH = BigInt(MAX_NUMBERS);
 
-function checkBytes(value, what) {
-  if (!ArrayBuffer.isView(value) || value[Symbol.toStringTag] !== 'Uint8Array') throw new TypeError(`${what} is not a Uint8Array`);
+function checkArray(value, what, type) {
+  if (!ArrayBuffer.isView(value) || value[Symbol.toStringTag] !== type) throw new TypeError(`${what} is not a ${type}`);
   // A detached array looks like an empty one; only a new view of its buffer tells.
   if (value.length === 0) new Uint8Array(value.buffer);
+}
+
+const checkBytes = (value, what) => checkArray(value, what, 'Uint8Array');
+
+function checkPlanes(planes, count, what) {
+  if (!Array.isArray(planes) || planes.length !== count) throw new TypeError(`${what} are not an array of ${count}`);
+  for (const plane of planes) checkArray(plane, `one of ${what}`, 'Uint16Array');
+}
+
+// The call takes a depth of 8 bits: what they cannot hold is refused as 255 is.
+function depthBits(depth) {
+  if (!Number.isSafeInteger(depth)) throw new TypeError('the depth is not a whole number');
+  return depth >= 0 && depth < 256 ? depth : 255;
 }
 
 function checkLength(length) {
@@ -228,6 +241,31 @@ export class Bpg {
     return this.#copied('bpg_escape', bytes, (length) => length + Math.floor(length / 2) + 1, out);
   }
 
+  /** R, G and B that were multiplied by A, recovered, from the planes [r, g, b, a] of this depth: three new arrays, or those of `out`. */
+  unpremultiply(planes, depth, out) {
+    return this.#converted('bpg_unpremultiply', planes, 4, out, 3, [depthBits(depth)]);
+  }
+
+  /** C, M, Y and K from the planes [r, g, b, w] of this depth: four new arrays, or those of `out`. */
+  cmyk(planes, depth, out) {
+    return this.#converted('bpg_cmyk', planes, 4, out, 4, [depthBits(depth)]);
+  }
+
+  /** The color of a file with the W plane and no color profile, from the planes [r, g, b, w] of this depth: three new arrays, or those of `out`. */
+  defaultFromWhite(planes, depth, out) {
+    return this.#converted('bpg_default_from_white', planes, 4, out, 3, [depthBits(depth)]);
+  }
+
+  /** R, G and B from the planes [y, cg, co] of this depth: three new arrays, or those of `out`. */
+  ycgco(planes, depth, out) {
+    return this.#converted('bpg_ycgco', planes, 3, out, 3, [depthBits(depth)]);
+  }
+
+  /** Full-range luma from limited luma, both of 8 bits: a new array, or `out`. */
+  limitedLuma(y, out) {
+    return this.#converted('bpg_limited_luma', [y], 1, out === undefined ? out : [out], 1, [])[0];
+  }
+
   #readList(file) {
     const bytes = fileBytes(file);
     this.#put(bytes);
@@ -270,10 +308,32 @@ export class Bpg {
     return this.#written(status & 0xff, 0, at, out);
   }
 
+  // The buffers of a call on samples: planes stand in the room one after another, then the buffers.
+  #converted(call, planes, planeCount, out, bufferCount, depth) {
+    checkPlanes(planes, planeCount, 'the planes');
+    if (out !== undefined) checkPlanes(out, bufferCount, 'the buffers');
+    const buffers = out ?? Array.from({ length: bufferCount }, () => new Uint16Array(planes[0].length));
+    const memory = this.#memory;
+    const places = [memory.room];
+    for (const array of [...planes, ...buffers]) places.push(behind(places.at(-1), 2 * array.length));
+    memory.hold(places.at(-1));
+    this.#rewind();
+    const at = (k, array) => new Uint16Array(memory.bytes.buffer, places[k], array.length);
+    planes.forEach((plane, k) => at(k, plane).set(plane));
+    const slices = [...planes, ...buffers].flatMap((array, k) => [places[k], BigInt(array.length)]);
+    this.#accepted(this.#calls[call](...slices, ...depth) & 0xff, 0);
+    buffers.forEach((buffer, k) => buffer.set(at(planeCount + k, buffer)));
+    return buffers;
+  }
+
+  // A call that was cut off, where JavaScript's own stack ran out, has left the module's stack in use.
+  #rewind() {
+    this.#calls.__stack_pointer.value = this.#stackTop;
+  }
+
   // Puts the bytes into the room, with space for so many more behind them, and answers the address of that space.
   #put(bytes, more = 0) {
-    // A call that was cut off, where JavaScript's own stack ran out, has left the module's stack in use.
-    this.#calls.__stack_pointer.value = this.#stackTop;
+    this.#rewind();
     const memory = this.#memory;
     const at = behind(memory.room, bytes.length);
     memory.hold(at + more);

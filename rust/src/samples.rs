@@ -34,6 +34,7 @@ impl Depth {
         }
     }
 
+    /// How many bits it has.
     pub const fn bits(self) -> u8 {
         self.0
     }

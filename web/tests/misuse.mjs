@@ -75,6 +75,25 @@ const tests = {
     assert.throws(() => bpg.read(new Uint8Array(0)), refusal(2, 0));
   },
 
+  'planes are arrays of Uint16Arrays, and a refused call keeps its buffers'() {
+    const plane = () => Uint16Array.of(1, 2);
+    const three = [plane(), plane(), plane()];
+    for (const wrong of [undefined, null, {}, [], three.slice(1), [...three, plane()], [plane(), plane(), [1, 2]], [plane(), plane(), new Uint8Array(2)]]) {
+      assert.throws(() => bpg.ycgco(wrong, 8), TypeError);
+      if (wrong !== undefined) assert.throws(() => bpg.ycgco(three, 8, wrong), TypeError);
+    }
+    for (const wrong of [undefined, null, [], [1], new Uint8Array(2)]) assert.throws(() => bpg.limitedLuma(wrong), TypeError);
+    for (const wrong of [undefined, null, 8.5, NaN, '8', 8n]) assert.throws(() => bpg.cmyk([...three, plane()], wrong), TypeError);
+    for (const depth of [-1, 7, 15, 255, 256, 264, 2 ** 32 + 8]) assert.throws(() => bpg.ycgco(three, depth), refusal(32, 0));
+    const [red, green, short] = [Uint16Array.of(7, 7), Uint16Array.of(7, 7), Uint16Array.of(7)];
+    assert.throws(() => bpg.ycgco(three, 8, [red, green, short]), refusal(31, 0));
+    assert.throws(() => bpg.ycgco([Uint16Array.of(256, 0), plane(), plane()], 8, [red, green, Uint16Array.of(7, 7)]), refusal(33, 0));
+    assert.deepEqual([...red, ...green, ...short], [7, 7, 7, 7, 7]);
+    assert.deepEqual(bpg.ycgco([Uint16Array.of(255), Uint16Array.of(0), Uint16Array.of(255)], 8).flatMap((list) => [...list]), [255, 127, 255]);
+    const own = plane();
+    assert.equal(bpg.limitedLuma(own, own), own);
+  },
+
   'indexes and lengths are whole numbers'() {
     for (const wrong of [-1, 1.5, NaN, '0', undefined, 2n]) assert.throws(() => bpg.payload(C, wrong), TypeError);
     for (const wrong of [-1, 1.5, NaN, '16', 2 ** 32]) assert.throws(() => bpg.batch(A, [wrong]), TypeError);

@@ -1,5 +1,5 @@
 /* Answers cases with the native library, for native.mjs: calls from standard input, answers to standard output, as raw.mjs has them. A call is
- * its number, one byte, then its values (8 bytes) and lists (4 bytes for the count, then the elements). An answer is the status, then results
+ * its number, one byte, then its values (8 bytes, or 1) and lists (4 bytes for the count, then the elements). An answer is the status, then results
  * and the lists that may be written, in the order of the parameters. Results begin as all ones. */
 #include "../../include/bpg.h"
 
@@ -39,8 +39,13 @@ static void put_list(struct list list) {
     put(list.at, list.count * list.size);
 }
 
+static void drop(struct list *list) {
+    free(list->at);
+    list->at = NULL;
+}
+
 /* What a call has: its lists, which are kept until it is answered, its status and its results. */
-static struct list a, b, c, d;
+static struct list a, b, c, d, slices[8];
 static uint8_t status;
 static size_t first, second, third;
 
@@ -129,6 +134,50 @@ static void canonical_size(void) {
     put_status(), put_both();
 }
 
+static uint8_t get_samples(size_t planes, size_t buffers, bool has_depth) {
+    uint8_t depth = 0;
+    for (size_t k = 0; k < planes + buffers; k++) slices[k] = get_list(2);
+    if (has_depth) get(&depth, sizeof depth);
+    return depth;
+}
+
+static void put_samples(size_t planes, size_t buffers) {
+    put_status();
+    for (size_t k = planes; k < planes + buffers; k++) put_list(slices[k]);
+}
+
+#define SLICE(k) slices[k].at, slices[k].count
+
+static void unpremultiply(void) {
+    uint8_t depth = get_samples(4, 3, true);
+    status = bpg_unpremultiply(SLICE(0), SLICE(1), SLICE(2), SLICE(3), SLICE(4), SLICE(5), SLICE(6), depth);
+    put_samples(4, 3);
+}
+
+static void cmyk(void) {
+    uint8_t depth = get_samples(4, 4, true);
+    status = bpg_cmyk(SLICE(0), SLICE(1), SLICE(2), SLICE(3), SLICE(4), SLICE(5), SLICE(6), SLICE(7), depth);
+    put_samples(4, 4);
+}
+
+static void default_from_white(void) {
+    uint8_t depth = get_samples(4, 3, true);
+    status = bpg_default_from_white(SLICE(0), SLICE(1), SLICE(2), SLICE(3), SLICE(4), SLICE(5), SLICE(6), depth);
+    put_samples(4, 3);
+}
+
+static void ycgco(void) {
+    uint8_t depth = get_samples(3, 3, true);
+    status = bpg_ycgco(SLICE(0), SLICE(1), SLICE(2), SLICE(3), SLICE(4), SLICE(5), depth);
+    put_samples(3, 3);
+}
+
+static void limited_luma(void) {
+    get_samples(1, 1, false);
+    status = bpg_limited_luma(SLICE(0), SLICE(1));
+    put_samples(1, 1);
+}
+
 static void export_segments(void) {
     a = get_list(1), b = get_list(1);
     status = bpg_export_segments(a.at, a.count, b.at, b.count, &first, &second);
@@ -144,19 +193,16 @@ static void import_segments(void) {
 /* In the order of SIGNATURES in raw.mjs. */
 static void (*const calls[])(void) = {
     read_file, entry, write_file, canonicalize, frames, frame_count, check_thumbnails, batch, unescape, escape, write_size,
-    canonical_size, export_segments, import_segments,
+    canonical_size, unpremultiply, cmyk, default_from_white, ycgco, limited_luma, export_segments, import_segments,
 };
 
 int main(void) {
-    struct list *lists[] = {&a, &b, &c, &d};
     for (int number; (number = getchar()) != EOF;) {
         if ((size_t)number >= sizeof calls / sizeof *calls) return 2;
         first = second = SIZE_MAX;
         calls[number]();
-        for (size_t k = 0; k < 4; k++) {
-            free(lists[k]->at);
-            lists[k]->at = NULL;
-        }
+        drop(&a), drop(&b), drop(&c), drop(&d);
+        for (size_t k = 0; k < sizeof slices / sizeof *slices; k++) drop(&slices[k]);
     }
     return 0;
 }

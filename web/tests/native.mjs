@@ -36,6 +36,7 @@ function request(name, given) {
   const parts = [Uint8Array.of(NAMES.indexOf(name))];
   for (const item of given) {
     if (typeof item === 'bigint') parts.push(new BigUint64Array([item]));
+    else if (typeof item === 'number') parts.push(Uint8Array.of(item));
     else parts.push(new Uint32Array([item.length]), item);
   }
   return Buffer.concat(parts.map((part) => new Uint8Array(part.buffer, part.byteOffset, part.byteLength)));
@@ -108,11 +109,25 @@ function batchOf(some) {
   return { name: 'bpg_batch', given: [buffer, lengths, Uint8Array.from(others(), () => 99), others()] };
 }
 
+const CONVERSIONS = { bpg_unpremultiply: [4, 3], bpg_cmyk: [4, 4], bpg_default_from_white: [4, 3], bpg_ycgco: [3, 3], bpg_limited_luma: [1, 1] };
+
+/** A call on samples: now and then with planes or buffers of another length, another depth, a sample that is too large. */
+function conversion() {
+  const [name, [planes, buffers]] = random.pick(Object.entries(CONVERSIONS));
+  const depth = random.once(10) ? random.pick([0, 7, 15, 255]) : 8 + (name === 'bpg_limited_luma' ? 0 : random.below(7));
+  const [length, most] = [random.below(40), 2 ** Math.min(Math.max(depth, 8), 14) - 1];
+  const lengths = () => (random.once(40) ? random.below(41) : length);
+  const sample = () => (random.once(1000) ? most + 1 : random.pick([0, 1, most, random.below(most + 1)]));
+  const given = Array.from({ length: planes }, () => Uint16Array.from({ length: lengths() }, sample));
+  for (let k = 0; k < buffers; k++) given.push(filled(Uint16Array, lengths(), 7777));
+  return { name, given: name === 'bpg_limited_luma' ? given : [...given, depth] };
+}
+
 while (files < FILES) {
   const chunk = Array.from({ length: Math.min(CHUNK, FILES - files) }, () => Uint8Array.from(spoil(random, file(random), random.pick([0, 0, 1, 2, 4]))));
   files += chunk.length;
   const cases = chunk.flatMap(callsOn);
-  for (let k = 0; k + 8 < chunk.length; k += 8) cases.push(batchOf(chunk.slice(k, k + random.below(8))));
+  for (let k = 0; k + 8 < chunk.length; k += 8) cases.push(batchOf(chunk.slice(k, k + random.below(8))), conversion());
   compare(cases);
 }
 

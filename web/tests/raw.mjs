@@ -2,12 +2,14 @@
 // so that what a call must leave as it was can be looked at.
 import { readFileSync } from 'node:fs';
 
-/** What each call takes, in order. A list has the size of its elements in bytes and may be written (`out`); `value` is a number of 64 bits; a
- *  result has its size in bytes. */
+/** What each call takes, in order. A list has the size of its elements in bytes and may be written (`out`); `value` is a number of 64 bits,
+ *  `byte` one of 8; a result has its size in bytes. */
 const list = (size) => ({ kind: 'list', size, out: false });
 const outList = (size) => ({ kind: 'list', size, out: true });
 const value = { kind: 'value' };
+const byte = { kind: 'byte' };
 const result = (size) => ({ kind: 'result', size });
+const planes = (read, written) => [...Array(read).fill(list(2)), ...Array(written).fill(outList(2))];
 
 export const SIGNATURES = {
   bpg_read: [list(1), outList(8), result(8)],
@@ -22,6 +24,11 @@ export const SIGNATURES = {
   bpg_escape: [list(1), outList(1), result(8)],
   bpg_write_size: [list(8), list(1), result(8)],
   bpg_canonical_size: [list(1), result(8), result(8)],
+  bpg_unpremultiply: [...planes(4, 3), byte],
+  bpg_cmyk: [...planes(4, 4), byte],
+  bpg_default_from_white: [...planes(4, 3), byte],
+  bpg_ycgco: [...planes(3, 3), byte],
+  bpg_limited_luma: planes(1, 1),
   bpg_export_segments: [list(1), outList(1), result(8), result(8)],
   bpg_import_segments: [list(1), outList(1), result(8), result(8), result(8)],
 };
@@ -67,8 +74,9 @@ export class Raw {
     const left = given.values();
     let at = base;
     for (const { kind, size, out } of signature) {
-      if (kind === 'value') {
-        words.push(BigInt(left.next().value));
+      if (kind === 'value' || kind === 'byte') {
+        const number = left.next().value;
+        words.push(kind === 'value' ? BigInt(number) : number);
         continue;
       }
       const array = kind === 'list' ? left.next().value : undefined;

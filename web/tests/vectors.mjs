@@ -142,6 +142,20 @@ function nal(line) {
   same('escape', hex(bpg.escape(bytes(undone))), redone.replace('-', ''));
 }
 
+const CONVERSIONS = { premultiplied: 'unpremultiply', cmyk: 'cmyk', white: 'defaultFromWhite', ycgco: 'ycgco', luma: 'limitedLuma' };
+
+function samples(line) {
+  const [, rule, depth, given, rooms, status, after] = line.match(/^(\w+) depth (\d+) planes (.+) rooms (.+) => (\d+) at 0 count \d+ rooms (.+)$/);
+  const arrays = (text) => text.split(' ').map((list) => Uint16Array.from(numbers(list)));
+  const [planes, out] = [arrays(given), rooms.split(' ').map((length) => new Uint16Array(Number(length)).fill(7777))];
+  const call = CONVERSIONS[rule];
+  const convert = (lent) => (rule === 'luma' ? [bpg.limitedLuma(planes[0], lent?.[0])] : bpg[call](planes, Number(depth), lent));
+  const show = (lists) => lists.map((list) => list.join() || '-').join(' ');
+  const got = answer(() => convert(out), () => '0 at 0');
+  same(call, `${got} ${show(out)}`, `${status} at 0 ${after}`);
+  if (status === '0') same(call, show(convert()), after);
+}
+
 function exported(line) {
   const { file, room_size, answer: [status, offset, count], room } = JSON.parse(line);
   const got = raw.call('bpg_export_segments', bytes(file), filled(room_size));
@@ -169,6 +183,7 @@ lines('frames.txt').forEach(frames);
 lines('deep.txt').forEach(deep);
 lines('batch.txt').forEach(batch);
 lines('nal.txt').forEach(nal);
+lines('samples.txt').forEach(samples);
 lines('export.jsonl').forEach(exported);
 lines('import.jsonl').forEach(imported);
 const total = Object.values(counts).reduce((sum, count) => sum + count, 0);
