@@ -281,7 +281,8 @@ fn exporting() {
 
 /// And back. Plain Rust joins the payloads before it copies them.
 fn importing() {
-    let run = &bpg::export_segments_to_vec(&sample::profile(12 << 20)).expect("the file is valid")[..];
+    let run =
+        &bpg::export_segments_to_vec(&sample::profile(12 << 20)).expect("the file is valid")[..];
     let count = |lengths: [usize; 3]| lengths.iter().sum();
     let race = Race::run(
         &mut buffer(run.len()),

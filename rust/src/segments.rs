@@ -3,9 +3,9 @@
 #[cfg(feature = "alloc")]
 use alloc::{vec, vec::Vec};
 
-use crate::{answer, ffi, Refusal};
 #[cfg(feature = "alloc")]
 use crate::MAX_FILE;
+use crate::{answer, ffi, Refusal};
 
 /// What a run of segments carries. An absent payload is empty.
 #[derive(Clone, Copy, Debug, Default, PartialEq, Eq, Hash)]

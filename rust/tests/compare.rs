@@ -13,7 +13,9 @@ use std::env;
 use std::thread;
 
 use cases::{batches, large, nested, records, samples, segments, Random};
-use held::{Buffers, Cases, Met, Statuses, Table, BATCH_STATUSES, SAMPLE_STATUSES, THUMBNAIL_STATUSES};
+use held::{
+    Buffers, Cases, Met, Statuses, Table, BATCH_STATUSES, SAMPLE_STATUSES, THUMBNAIL_STATUSES,
+};
 
 const THREADS: u64 = 2;
 

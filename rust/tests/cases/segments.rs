@@ -48,7 +48,7 @@ fn payload(tag: u32, random: &mut Random) -> Vec<u8> {
 /// A run of segments from an export: as it is, or spoiled in one place.
 pub fn run(mut run: Vec<u8>, random: &mut Random) -> Vec<u8> {
     let starts = starts(&run);
-    let (Some(&first), true) = (starts.last(), !random.one_in(3)) else {
+    let (Some(&last), true) = (starts.last(), !random.one_in(3)) else {
         return run;
     };
     let at = random.pick(&starts);
@@ -68,7 +68,11 @@ pub fn run(mut run: Vec<u8>, random: &mut Random) -> Vec<u8> {
         }
         8 => run[at + 2..at + 4].swap(0, 1),
         // The chunk number or the count, where it is ICC.
-        9 => run[first + 16 + random.below(2)] = random.pick(&[0, 1, 2, 3, 255]),
+        9 => {
+            if let Some(byte) = run.get_mut(last + 16 + random.below(2)) {
+                *byte = random.pick(&[0, 1, 2, 3, 255]);
+            }
+        }
         10 => empty(&mut run, at),
         _ => {
             let at = random.below(run.len());

@@ -90,11 +90,21 @@ pub fn long_profile(size: usize, buffers: &mut Buffers, met: &mut Met) {
     let file = segments::long_profile(size);
     let case = || format!("a profile of {size} bytes");
     let count = export_in(&file, file.len() + MORE, buffers, met);
-    same("whether it fits", &case, count.is_some(), size <= 255 * 65_519);
+    same(
+        "whether it fits",
+        &case,
+        count.is_some(),
+        size <= 255 * 65_519,
+    );
     if count.is_some() {
         let run = bpg::export_segments_to_vec(&file).expect("it was exported before");
         let back = import_in(&run, size, buffers, met);
         same("what comes back", &case, back, Some(size));
-        same("its bytes", &case, buffers.library(size), bpg::payload(&file, 0));
+        same(
+            "its bytes",
+            &case,
+            buffers.library(size),
+            bpg::payload(&file, 0),
+        );
     }
 }
