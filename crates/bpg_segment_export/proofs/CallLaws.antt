@@ -1,18 +1,18 @@
 -- What export of a file answers, step by step.
 use mathlib.Core.Path.{_≡_, refl, sym, ap, _∙_, subst}
-use mathlib.Core.Bool.{Bool, true, false, _&&_}
+use mathlib.Core.Bool.{true, false, _&&_}
 use mathlib.Core.List.{List}
 use mathlib.Core.Logic.{_≢_}
 use Prim.Native.Nat.{ℕ, _+_, _-_, _≤_}
 use native.Mathlib.Omega.{arith}
-use lib.ListN.{length, take, drop, getD}
+use lib.ListN.{length, take, drop}
 use borrow.Author.Tests.{ne-eqb}
 use Rattle.bpg_codec.specs.Lawful.{All, Byte}
 use Rattle.bpg_format.specs.Limits.{maxEntries}
 use Rattle.bpg_format.specs.declared.record.Entry.{Entry}
 use Rattle.bpg_format.specs.declared.answer.Reading.{Reading}
 use Rattle.bpg_format.specs.declared.answer.Written.{Written}
-use Rattle.bpg_format.specs.Zero.{zeroEntry, refusedWritten}
+use Rattle.bpg_format.specs.Zero.{refusedWritten}
 use Rattle.bpg_format.specs.Records.{bytesIn, usedEntries, readFile}
 use Rattle.bpg_format.specs.Parts.{rangeEnd, entryOf}
 use Rattle.bpg_parts.proofs.PartLaws.{count-most, payload-inside}

@@ -2,25 +2,24 @@
 use mathlib.Core.Path.{_≡_, refl, sym, ap, _∙_, subst}
 use mathlib.Core.Bool.{Bool, true, false, _&&_}
 use mathlib.Core.List.{List, [], _∷_, map}
-use mathlib.Core.Logic.{_⊎_, inl, inr, _≢_}
-use Prim.Native.Nat.{ℕ, _+_, _≤_, _<_}
+use mathlib.Core.Logic.{inl, inr}
+use Prim.Native.Nat.{ℕ, _≤_, _<_}
 use native.Mathlib.Omega.{arith}
-use lib.Dec.{eqb, leb}
-use lib.ListN.{length, take, drop, getD, length-append, length-map}
+use lib.Dec.{eqb}
+use lib.ListN.{length, take, getD, length-append, length-map}
 use borrow.Author.Tests.{leb-true, leb-false, le-leb, lt-leb, eqb-true, eqb-false}
 use Rattle.bpg_codec.specs.Lawful.{All, Byte}
-use Rattle.bpg_codec.proofs.Lists.{either-way}
 use Rattle.bpg_format.specs.declared.record.Entry.{Entry}
 use Rattle.bpg_format.specs.declared.answer.Written.{Written}
-use Rattle.bpg_format.specs.Zero.{zeroEntry, refusedWritten}
+use Rattle.bpg_format.specs.Zero.{zeroEntry}
 use Rattle.bpg_format.specs.Records.{bytesIn, usedEntries, readFile}
 use Rattle.bpg_format.specs.Parts.{recordIn, entryOf, payloadOf}
 use Rattle.bpg_format.proofs.Requirements.{reading, ranges}
-use Rattle.bpg_segment_rules.specs.Calls.{exportPayloads, exportBuffer, joined}
+use Rattle.bpg_segment_rules.specs.Calls.{exportPayloads, exportBuffer}
 use Rattle.bpg_segment_rules.specs.Requirements.{Answered}
-use Rattle.bpg_segment_rules.proofs.TestLaws.{false-not-true, by-cases, and-split}
+use Rattle.bpg_segment_rules.proofs.TestLaws.{by-cases}
 use Rattle.bpg_segment_rules.proofs.Requirements.{round-trip}
-use Rattle.bpg_segment_export.specs.Calls.{withTag, atMostOne, tagged, payloadWith, payloadsIn, onceEach, exportSegments, exportedBuffer}
+use Rattle.bpg_segment_export.specs.Calls.{atMostOne, tagged, payloadsIn, onceEach, exportSegments, exportedBuffer}
 use Rattle.bpg_segment_export.specs.Requirements.{Twice, OneTwice, OfFile, OfFiles, Order, FromFile}
 use Rattle.bpg_segment_export.proofs.OnceLaws.{HasAt, two, pair, only, none}
 use Rattle.bpg_segment_export.proofs.CallLaws.{file-unread, file-twice, file-payloads}

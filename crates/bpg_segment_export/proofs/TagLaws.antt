@@ -1,14 +1,14 @@
 -- The entries with a tag, one after the other.
-use mathlib.Core.Path.{_≡_, refl, sym, ap, _∙_, subst}
+use mathlib.Core.Path.{_≡_, refl, sym, ap, _∙_}
 use mathlib.Core.Bool.{Bool, true, false}
 use mathlib.Core.List.{List, [], _∷_}
 use mathlib.Core.Logic.{_≢_}
-use Prim.Native.Nat.{ℕ, zero, suc, _+_, _≤_, _<_, min}
+use Prim.Native.Nat.{ℕ, suc, _+_, _≤_, _<_}
 use native.Mathlib.Omega.{arith}
 use lib.Dec.{eqb, leb}
-use lib.ListN.{length, take, drop, getD, length-take, drop-of-length-le}
+use lib.ListN.{length, drop, getD, length-take, drop-of-length-le}
 use lib.Seq.{getD-take}
-use borrow.Author.Tests.{eq-eqb, ne-eqb, le-leb, lt-leb}
+use borrow.Author.Tests.{eq-eqb, ne-eqb, lt-leb}
 use Rattle.bpg_codec.specs.Select.{select}
 use Rattle.bpg_codec.proofs.Lists.{either-way, drop-next}
 use Rattle.bpg_codec.proofs.Select.{select-true, select-false}
@@ -18,7 +18,7 @@ use Rattle.bpg_format.specs.declared.record.Record.{Record}
 use Rattle.bpg_format.specs.Zero.{zeroEntry, range}
 use Rattle.bpg_format.specs.Records.{usedEntries}
 use Rattle.bpg_segment_export.specs.declared.tags.Tagged.{Tagged}
-use Rattle.bpg_segment_export.specs.Calls.{withTag, atMostOne}
+use Rattle.bpg_segment_export.specs.Calls.{withTag}
 use Rattle.bpg_segment_export.specs.Steps.{NextWith, taggedOf, taggedIn}
 
 -- the entries in use

@@ -2,7 +2,7 @@
 -- (What a run is, and import, are in `bpg_segment_rules/specs/Requirements`.)
 use mathlib.Core.Path.{_≡_}
 use mathlib.Core.List.{List, []}
-use mathlib.Core.Logic.{_↔_, _⊎_, _≢_}
+use mathlib.Core.Logic.{_⊎_, _≢_}
 use Prim.Native.Nat.{ℕ, _≤_, _<_}
 use lib.ListN.{length, take}
 use Rattle.bpg_codec.specs.Lawful.{All, Byte}

@@ -1,10 +1,10 @@
 -- What import answers, by what was found in the run.
-use mathlib.Core.Path.{_≡_, refl, sym, ap, ap₂, _∙_}
+use mathlib.Core.Path.{_≡_, refl, sym, ap, _∙_}
 use mathlib.Core.Bool.{true, false}
 use mathlib.Core.List.{List, _++_}
 use Prim.Native.Nat.{ℕ, _+_, _-_, _≤_, _<_}
 use native.Mathlib.Omega.{arith}
-use lib.ListN.{length, take, drop, length-append, length-drop}
+use lib.ListN.{length, drop, length-append, length-drop}
 use lib.Seq.{length-take-le}
 use borrow.Author.Tests.{le-leb, lt-leb}
 use Rattle.bpg_codec.specs.Lawful.{All, Byte}
@@ -12,7 +12,7 @@ use Rattle.bpg_codec.proofs.Buffer.{stored}
 use Rattle.bpg_codec.proofs.Tokens.{all-drop}
 use Rattle.bpg_writer.proofs.PutLaws.{Put, put-end, put-then}
 use Rattle.bpg_segment_rules.specs.declared.answer.Imported.{Imported}
-use Rattle.bpg_segment_rules.specs.Runs.{Payloads, payloads, iccRun}
+use Rattle.bpg_segment_rules.specs.Runs.{Payloads, payloads}
 use Rattle.bpg_segment_rules.specs.Calls.{joined, importOutcome, refusedImport, importedPayloads, importSegments, importBuffer}
 use Rattle.bpg_segment_rules.proofs.ChunkLaws.{icc-encodes, length-icc}
 use Rattle.bpg_segment_reader.specs.declared.run.Found.{Found}

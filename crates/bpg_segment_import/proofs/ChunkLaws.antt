@@ -1,18 +1,14 @@
 -- The chunks of a profile in a run, one after the other.
-use mathlib.Core.Path.{_≡_, refl, sym, ap, ap₂, _∙_, subst}
-use mathlib.Core.List.{List, [], _∷_, _++_, append-assoc, append-nil}
-use Prim.Native.Nat.{ℕ, zero, suc, _+_, _-_, _*_, _≤_, _<_, min}
+use mathlib.Core.Path.{_≡_, refl, sym, ap, ap₂, _∙_}
+use mathlib.Core.List.{List, [], _++_}
+use Prim.Native.Nat.{ℕ, zero, suc, _+_, _-_, _≤_, min}
 use native.Mathlib.Omega.{arith}
-use lib.ListN.{length, take, drop, length-append, length-take, length-drop, drop-of-length-le}
+use lib.ListN.{length, take, drop, length-append, length-take, length-drop}
 use lib.Seq.{take-at, drop-at, drop-drop}
-use Rattle.bpg_codec.specs.Lawful.{All, Byte}
-use Rattle.bpg_codec.specs.Outcome.{ok}
-use Rattle.bpg_codec.proofs.Tokens.{all-drop}
-use Rattle.bpg_writer.proofs.PutLaws.{Put, put-end, put-none, put-same, put-then}
 use Rattle.bpg_segment_rules.specs.Segments.{segment}
-use Rattle.bpg_segment_rules.specs.Runs.{iccPrefix, chunkCount, chunks, iccIn}
+use Rattle.bpg_segment_rules.specs.Runs.{iccPrefix, chunks}
 use Rattle.bpg_segment_rules.proofs.SegmentLaws.{length-segment}
-use Rattle.bpg_segment_rules.proofs.ChunkLaws.{Takes, takes-count, chunks-none, chunks-more, icc-encodes}
+use Rattle.bpg_segment_rules.proofs.ChunkLaws.{Takes, chunks-none, chunks-more}
 
 -- ---- the chunk at p, and what follows it
 

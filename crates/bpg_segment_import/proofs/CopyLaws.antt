@@ -10,7 +10,7 @@ use Rattle.bpg_codec.proofs.Tokens.{all-drop}
 use Rattle.bpg_writer.proofs.PutLaws.{Put, put-end, put-none, put-same, put-then}
 use Rattle.bpg_segment_rules.specs.Runs.{chunkCount, iccIn}
 use Rattle.bpg_segment_rules.proofs.ChunkLaws.{takes-count, chunks-none, icc-encodes}
-use Rattle.bpg_segment_import.proofs.ChunkLaws.{ChunksAt, length-first, Next, next}
+use Rattle.bpg_segment_import.proofs.ChunkLaws.{ChunksAt, length-first, next}
 
 pub record Copied (run profile out : List ℕ) (to p : ℕ) (after : List ℕ) (filled : ℕ) : Type 0 where
   pub left : ℕ

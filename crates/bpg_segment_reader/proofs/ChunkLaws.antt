@@ -1,25 +1,23 @@
 -- Judging the chunks of a profile.
-use mathlib.Core.Path.{_≡_, refl, sym, ap, ap₂, _∙_, subst}
-use mathlib.Core.Bool.{Bool, true, false, _&&_}
+use mathlib.Core.Path.{_≡_, refl, sym, ap, ap₂, _∙_}
+use mathlib.Core.Bool.{true, false}
 use mathlib.Core.List.{List, [], _∷_, _++_}
-use Prim.Native.Nat.{ℕ, zero, suc, _+_, _-_, _*_, _≤_, _<_}
+use Prim.Native.Nat.{ℕ, zero, suc, _+_, _-_, _≤_, _<_}
 use native.Mathlib.Omega.{arith}
 use native.Mathlib.Numerals.{add-one}
-use lib.Dec.{leb, eqb}
+use lib.Dec.{eqb}
 use Rattle.bpg_codec.proofs.Lists.{either-way}
-use lib.ListN.{length, take, drop, getD, length-append, length-take, length-drop, drop-of-length-le, List·getD-eq-default}
-use lib.Seq.{length-take-le, getD-drop}
+use lib.ListN.{length, take, drop, getD, length-append, length-drop, drop-of-length-le}
+use lib.Seq.{length-take-le}
 use borrow.Author.Tests.{leb-true, eqb-true, eqb-false}
-use Rattle.bpg_codec.specs.Select.{select}
 use Rattle.bpg_codec.specs.Outcome.{Outcome, ok, error, _>>=_, guard}
 use Rattle.bpg_codec.specs.Lists.{same}
 use Rattle.bpg_codec.proofs.Select.{select-true, select-false}
 use Rattle.bpg_segment_rules.specs.Segments.{opens, inside, after, holds, payload, takePart}
 use Rattle.bpg_segment_rules.specs.Runs.{iccPrefix, full, isEmpty, chunksIn, iccIn}
 use Rattle.bpg_segment_reader.specs.declared.segment.Part.{Part}
-use Rattle.bpg_segment_reader.specs.declared.chunks.Judged.{Judged}
-use Rattle.bpg_segment_reader.specs.Places.{PartAt, bytesOf, fullSize, judgedLength, judgementOf}
-use Rattle.bpg_segment_rules.proofs.TestLaws.{false-not-true, and-split, by-cases}
+use Rattle.bpg_segment_reader.specs.Places.{PartAt, fullSize, judgedLength, judgementOf}
+use Rattle.bpg_segment_rules.proofs.TestLaws.{and-split, by-cases}
 use Rattle.bpg_segment_rules.proofs.SegmentLaws.{taken, passed}
 use Rattle.bpg_segment_rules.proofs.ChunkLaws.{in-none, in-more}
 

@@ -1,8 +1,8 @@
 -- What was found of the parts, put together.
 use mathlib.Core.Path.{_≡_, refl, sym, ap, _∙_}
-use mathlib.Core.Bool.{true, false}
+use mathlib.Core.Bool.{true}
 use mathlib.Core.List.{List}
-use Prim.Native.Nat.{ℕ, _+_}
+use Prim.Native.Nat.{ℕ}
 use native.Mathlib.Omega.{arith}
 use lib.ListN.{length, drop}
 use Rattle.bpg_codec.specs.Outcome.{Outcome, ok, error, _>>=_}
@@ -12,7 +12,6 @@ use Rattle.bpg_segment_rules.specs.Segments.{takePart}
 use Rattle.bpg_segment_rules.specs.Runs.{Payloads, payloads, exifPrefix, xmpPrefix, iccIn, importRun}
 use Rattle.bpg_segment_reader.specs.declared.segment.Part.{Part}
 use Rattle.bpg_segment_reader.specs.declared.chunks.Judged.{Judged}
-use Rattle.bpg_segment_reader.specs.declared.run.Found.{Found}
 use Rattle.bpg_segment_reader.specs.Places.{bytesOf, PartAt, judgedLength, judgementOf}
 use Rattle.bpg_segment_reader.specs.Runs.{valueOf, profileIn, FoundIn}
 

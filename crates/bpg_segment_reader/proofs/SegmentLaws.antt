@@ -1,21 +1,19 @@
 -- What is found at a place of a run: a segment, and a part in it.
-use mathlib.Core.Path.{_≡_, refl, sym, ap, ap₂, _∙_, subst}
-use mathlib.Core.Bool.{Bool, true, false, _&&_}
-use mathlib.Core.List.{List, [], _∷_, _++_}
-use Prim.Native.Nat.{ℕ, zero, suc, _+_, _-_, _*_, _/_, _%_, _≤_, _<_}
+use mathlib.Core.Path.{_≡_, sym, ap, ap₂, _∙_}
+use mathlib.Core.Bool.{true, false}
+use mathlib.Core.List.{List}
+use Prim.Native.Nat.{ℕ, _+_, _-_, _*_, _≤_, _<_}
 use native.Mathlib.Omega.{arith}
 use native.Mathlib.Nat.{add-zero}
-use native.Mathlib.Numerals.{add-one}
-use lib.Dec.{T, leb, eqb}
-use lib.ListN.{length, take, drop, getD, length-append, length-take, length-drop, drop-of-length-le}
+use lib.Dec.{leb, eqb}
+use lib.ListN.{length, take, drop, getD, length-take, length-drop}
 use Rattle.bpg_codec.proofs.Lists.{take-drop}
-use lib.Seq.{length-take-le, take-all, take-take, drop-drop, drop-cons, getD-drop}
-use borrow.Author.Tests.{le-leb, lt-leb, leb-true, eqb-true, eq-eqb, ne-eqb}
+use lib.Seq.{length-take-le, take-take, drop-drop, getD-drop}
+use borrow.Author.Tests.{le-leb, leb-true, eqb-true, eq-eqb}
 use Rattle.bpg_codec.specs.Select.{select}
 use Rattle.bpg_codec.specs.Lists.{same}
 use Rattle.bpg_codec.proofs.Select.{select-true, select-false}
-use Rattle.bpg_segment_rules.specs.Segments.{field, opens, inside, after, holds, payload, takePart}
-use Rattle.bpg_segment_reader.specs.declared.segment.Part.{Part}
+use Rattle.bpg_segment_rules.specs.Segments.{field, opens, inside, after, holds, payload}
 use Rattle.bpg_segment_reader.specs.Places.{PartAt}
 use Rattle.bpg_segment_rules.proofs.TestLaws.{false-not-true, and-split, by-cases}
 use Rattle.bpg_segment_rules.proofs.SegmentLaws.{taken, passed}

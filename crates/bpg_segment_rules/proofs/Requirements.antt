@@ -1,7 +1,7 @@
 -- The requirements of request 10/13 over three payloads, proved.
 use mathlib.Core.Path.{_≡_, refl, sym, ap, _∙_, subst}
 use mathlib.Core.Bool.{true, false, _&&_}
-use mathlib.Core.List.{List, [], _∷_, _++_}
+use mathlib.Core.List.{List, [], _++_}
 use mathlib.Core.Logic.{_↔_, _⊎_, inl, inr, ⊎-elim, _≢_}
 use Prim.Native.Nat.{ℕ, zero, suc, _+_, _≤_, _<_}
 use native.Mathlib.Omega.{arith}
@@ -10,12 +10,12 @@ use lib.ListN.{length, take, drop}
 use lib.Seq.{take-append-seam}
 use borrow.Author.Tests.{le-leb, lt-leb, leb-true, leb-false}
 use Rattle.bpg_codec.specs.Lawful.{All, Byte}
-use Rattle.bpg_codec.specs.Outcome.{Outcome, ok, error, _>>=_, guard}
+use Rattle.bpg_codec.specs.Outcome.{Outcome, ok, error}
 use Rattle.bpg_codec.proofs.Refusals.{Refuses, refuses-ok, refuses-bind, refuses-guard}
 use Rattle.bpg_format.specs.Zero.{refusedWritten}
 use Rattle.bpg_segment_rules.specs.Segments.{holds, payload, after, part, takePart}
 use Rattle.bpg_segment_rules.specs.Runs.{Payloads, payloads, exifPrefix, xmpPrefix, iccPrefix, chunkCount, chunks, exportRun, withinLimits, full, isEmpty, chunksIn, iccIn, importRun}
-use Rattle.bpg_segment_rules.specs.Calls.{exportOutcome, exportPayloads, exportBuffer, joined, importOutcome, refusedImport, importedPayloads, importedAnswer, importSegments, importBuffer}
+use Rattle.bpg_segment_rules.specs.Calls.{exportOutcome, exportPayloads, exportBuffer, joined, importOutcome, refusedImport, importSegments, importBuffer}
 use Rattle.bpg_segment_rules.specs.Requirements.{Limits, IsExport, Answered, RoundTrip, NoneShared, OnlyExports, WellFormed, Refusals, written}
 use Rattle.bpg_segment_rules.proofs.TestLaws.{and-split, by-cases, false-not-true}
 use Rattle.bpg_segment_rules.proofs.RunLaws.{import-export, export-injective, export-import}

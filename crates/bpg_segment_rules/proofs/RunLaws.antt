@@ -2,16 +2,16 @@
 use mathlib.Core.Path.{_≡_, refl, sym, ap, _∙_, subst}
 use mathlib.Core.Bool.{false}
 use mathlib.Core.List.{List, [], _∷_, _++_}
-use Prim.Native.Nat.{ℕ, zero, suc, _≤_}
+use Prim.Native.Nat.{ℕ, zero, suc}
 use native.Mathlib.Omega.{arith}
 use lib.ListN.{length, take}
 use Rattle.bpg_codec.specs.Lists.{same}
 use Rattle.bpg_codec.specs.Lawful.{All, Byte}
-use Rattle.bpg_codec.specs.Outcome.{ok, _>>=_}
+use Rattle.bpg_codec.specs.Outcome.{ok}
 use Rattle.bpg_codec.proofs.Tokens.{all-rest}
 use Rattle.bpg_codec.proofs.Outcome.{ok-injective, unbind}
-use Rattle.bpg_segment_rules.specs.Segments.{segment, holds, part, takePart}
-use Rattle.bpg_segment_rules.specs.Runs.{Payloads, payloads, exifPrefix, xmpPrefix, iccPrefix, chunkCount, chunks, iccRun, exportRun, iccIn, importRun}
+use Rattle.bpg_segment_rules.specs.Segments.{holds, part, takePart}
+use Rattle.bpg_segment_rules.specs.Runs.{Payloads, exifPrefix, xmpPrefix, iccPrefix, chunkCount, chunks, iccRun, exportRun, iccIn, importRun}
 use Rattle.bpg_segment_rules.specs.Requirements.{Limits}
 use Rattle.bpg_segment_rules.proofs.SegmentLaws.{holds-none, holds-other, part-none, part-some, part-decodes, part-encodes}
 use Rattle.bpg_segment_rules.proofs.ChunkLaws.{chunks-none, chunks-more, icc-decodes, icc-encodes}

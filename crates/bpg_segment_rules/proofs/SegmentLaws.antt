@@ -1,20 +1,18 @@
 -- The laws of one segment.
 use mathlib.Core.Path.{_≡_, refl, sym, ap, ap₂, _∙_, subst}
-use mathlib.Core.Bool.{Bool, true, false, _&&_}
+use mathlib.Core.Bool.{Bool, true, false}
 use mathlib.Core.List.{List, [], _∷_, _++_}
-use Prim.Native.Nat.{ℕ, zero, suc, _+_, _-_, _*_, _/_, _%_, _≤_, _<_}
+use Prim.Native.Nat.{ℕ, _+_, _-_, _*_, _/_, _%_, _≤_, _<_}
 use native.Mathlib.Omega.{arith}
-use lib.Dec.{T, leb, eqb, leb→le, le→leb, eqb→eq, eqb-refl}
-use lib.ListN.{length, take, drop, getD, length-append, length-take, length-drop, take-append-drop}
+use lib.Dec.{T, leb, eqb, eqb-refl}
+use lib.ListN.{length, take, drop, getD, length-append, length-drop, take-append-drop}
 use lib.Seq.{take-at, drop-at, length-take-le, take-append-seam, drop-append-seam}
-use borrow.Author.Tests.{le-leb, leb-true, eqb-true, eq-eqb}
-use Rattle.bpg_codec.specs.Select.{select}
+use borrow.Author.Tests.{le-leb, leb-true, eqb-true}
 use Rattle.bpg_codec.specs.Lawful.{All, Byte}
 use Rattle.bpg_codec.specs.Lists.{same}
-use Rattle.bpg_codec.proofs.Select.{select-true, select-false, is-true, and-left, and-right, and-both}
-use Rattle.bpg_codec.proofs.Tokens.{all-append, all-right, all-rest}
+use Rattle.bpg_codec.proofs.Select.{select-true, select-false, is-true}
 use Rattle.bpg_codec.proofs.Lists.{same-equal, same-refl}
-use Rattle.bpg_segment_rules.proofs.TestLaws.{false-not-true, and-split, and-false, by-cases}
+use Rattle.bpg_segment_rules.proofs.TestLaws.{and-split, and-false}
 use Rattle.bpg_segment_rules.specs.Segments.{segment, field, opens, inside, after, holds, payload, part, takePart}
 
 module _ (marker : ℕ) (body rest : List ℕ) where

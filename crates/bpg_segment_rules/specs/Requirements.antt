@@ -1,7 +1,6 @@
 -- Request 10/13 over three payloads, in its own words and as types over the definitions that the calls' contracts cite. `proofs/Requirements`
 -- proves them. (What is exported of a file is in `bpg_segment_export/specs/Requirements`.)
 use mathlib.Core.Path.{_≡_}
-use mathlib.Core.Bool.{true, false}
 use mathlib.Core.List.{List, [], _++_}
 use mathlib.Core.Logic.{_↔_, _⊎_, _≢_}
 use Prim.Native.Nat.{ℕ, _≤_, _<_}

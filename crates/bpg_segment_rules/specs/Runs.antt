@@ -1,7 +1,7 @@
 -- The run of segments that three payloads are exported as, and what a run is imported as (request 10/13).
 use mathlib.Core.Bool.{Bool, true, false, _&&_}
 use mathlib.Core.List.{List, [], _∷_, _++_}
-use Prim.Native.Nat.{ℕ, zero, suc, _+_, _/_, _≤_}
+use Prim.Native.Nat.{ℕ, zero, suc, _+_, _/_}
 use lib.Dec.{eqb, leb}
 use lib.ListN.{length, take, drop, getD}
 use Rattle.bpg_codec.specs.Outcome.{Outcome, ok, _>>=_, guard}

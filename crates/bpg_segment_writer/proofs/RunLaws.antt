@@ -5,13 +5,12 @@ use mathlib.Core.List.{List, _++_}
 use Prim.Native.Nat.{ℕ, _+_, _≤_, _<_}
 use native.Mathlib.Omega.{arith}
 use lib.ListN.{length, drop, length-append}
-use borrow.Author.Tests.{le-leb, lt-leb, leb-true}
 use Rattle.bpg_codec.proofs.Buffer.{stored}
 use Rattle.bpg_writer.proofs.PutLaws.{Put, put-end, put-then}
 use Rattle.bpg_format.specs.declared.answer.Written.{Written}
 use Rattle.bpg_format.specs.Zero.{refusedWritten}
 use Rattle.bpg_segment_rules.specs.Segments.{part}
-use Rattle.bpg_segment_rules.specs.Runs.{Payloads, exifPrefix, xmpPrefix, iccRun, chunkCount, exportRun, withinLimits}
+use Rattle.bpg_segment_rules.specs.Runs.{Payloads, exifPrefix, xmpPrefix, iccRun, exportRun}
 use Rattle.bpg_segment_rules.specs.Calls.{exportOutcome, exportPayloads, exportBuffer}
 use Rattle.bpg_segment_rules.specs.Requirements.{Limits, written}
 use Rattle.bpg_segment_rules.proofs.Requirements.{within-limits, refusals}

@@ -1,8 +1,7 @@
 -- How long a run is.
-use mathlib.Core.Path.{_≡_, refl, sym, ap, _∙_}
-use mathlib.Core.Bool.{Bool, true, false, _&&_}
+use mathlib.Core.Path.{_≡_, refl, sym, _∙_}
 use mathlib.Core.List.{List, [], _∷_, _++_}
-use Prim.Native.Nat.{ℕ, zero, suc, _+_, _*_, _/_, _≤_, _<_}
+use Prim.Native.Nat.{ℕ, zero, suc, _+_, _≤_, _<_}
 use native.Mathlib.Omega.{arith}
 use lib.Dec.{leb}
 use lib.ListN.{length, length-append}
@@ -12,7 +11,7 @@ use Rattle.bpg_segment_rules.specs.Runs.{Payloads, exifPrefix, xmpPrefix, chunk
 use Rattle.bpg_segment_rules.proofs.TestLaws.{by-cases}
 use Rattle.bpg_segment_rules.proofs.SegmentLaws.{length-segment, part-none, part-some}
 use Rattle.bpg_segment_rules.proofs.ChunkLaws.{count-is, length-icc}
-use Rattle.bpg_segment_writer.specs.Sizes.{isWithin, partSize, profileSize, runSize}
+use Rattle.bpg_segment_writer.specs.Sizes.{isWithin, partSize, runSize}
 
 pub size-some : (p n : ℕ) → (n ≡ 0 → ⊥) → partSize p n ≡ 4 + p + n
 size-some p zero h = absurd (h refl)

@@ -1,8 +1,8 @@
-use mathlib.Core.Path.{_≡_, _∙_}
+-- `call::export_segments` meets its contract.
+use mathlib.Core.Path.{_∙_}
 use mathlib.Core.List.{List}
-use Prim.Native.Nat.{ℕ, _+_, _≤_}
+use Prim.Native.Nat.{ℕ}
 use native.Mathlib.Omega.{arith}
-use lib.ListN.{length}
 use borrow.Author.Tests.{not-true, not-false}
 use Rattle.bpg_codec.specs.Lawful.{All, Byte}
 use Rattle.bpg_codec.proofs.Tokens.{all-bytes}
@@ -10,12 +10,6 @@ use Rattle.bpg_segment_export.proofs.CallLaws.{unread, few, inside, twi
 use borrow.Author.Needs.{needs}
 use Rattle.bpg_segment_export.proofs.call.export_segments.Statement.{statement}
 use Rattle.bpg_segment_export.proofs.call.export_segments.Tie as tie
-use Rattle.bpg_segment_export.proofs.call.export_segments.Reads as reads
-use Rattle.bpg_segment_export.proofs.call.export_segments.Lts as lts
-use Rattle.bpg_format.proofs.written_refused.Reads as written-refused-reads
-use Rattle.bpg_reader.proofs.read.Reads as read-reads
-use Rattle.bpg_segment_export.proofs.tags.with_tag.Reads as with-tag-reads
-use Rattle.bpg_segment_writer.proofs.write_run.Reads as write-run-reads
 
 -- the file was read
 module _ (r : tie.After-read) where

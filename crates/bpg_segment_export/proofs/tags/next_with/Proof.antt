@@ -1,8 +1,9 @@
-use mathlib.Core.Path.{_≡_, refl, sym, ap, _∙_, subst}
+-- `tags::next_with` meets its contract.
+use mathlib.Core.Path.{_≡_, refl, subst}
 use mathlib.Core.List.{List}
-use Prim.Native.Nat.{ℕ, _+_, _-_, _≤_, _<_}
+use Prim.Native.Nat.{_-_, _≤_}
 use native.Mathlib.Omega.{arith}
-use lib.ListN.{length, take, getD}
+use lib.ListN.{length, take}
 use Rattle.bpg_format.specs.Limits.{maxEntries}
 use Rattle.bpg_format.specs.declared.record.Entry.{Entry}
 use Rattle.bpg_format.specs.Records.{usedEntries}
@@ -12,8 +13,6 @@ use Rattle.bpg_segment_export.proofs.TagLaws.{used-length, used-entry, 
 use borrow.Author.Needs.{needs}
 use Rattle.bpg_segment_export.proofs.tags.next_with.Statement.{statement}
 use Rattle.bpg_segment_export.proofs.tags.next_with.Tie as tie
-use Rattle.bpg_segment_export.proofs.tags.next_with.Reads as reads
-use Rattle.bpg_segment_export.proofs.tags.next_with.Lts as lts
 
 abbrev Inv-loop : tie.InvT-loop
 Inv-loop tag from entries count k₀ k = (k ≤ count) × Searched tag (take count entries) from k
@@ -42,9 +41,6 @@ returns c =
     let s = a .before .before .before in
     search-stops (s .args .tag) (used s) (s .args .from) (a .loop .k) (a .loop .inv .1) (omega (arith, l .loop-test .taken, many s)) _
     (used-entry (s .args .«record») (a .loop .k) (l .loop-test .taken)) (c .if1 .taken)
-
-loop-less : tie.Need-loop-less Inv-loop μ-loop
-loop-less c = omega arith
 
 loop-again : tie.Need-loop-again Inv-loop μ-loop
 loop-again c =
@@ -75,6 +71,6 @@ next-with-spec =
     (λ c. omega arith)
     returns
     (λ c. search needs)
-    loop-less
+    (λ c. omega arith)
     loop-again
     returns-2)

@@ -1,7 +1,8 @@
+-- `tags::with_tag` meets its contract.
 use mathlib.Core.Path.{_≡_, sym, ap, ap₂, _∙_}
 use mathlib.Core.Bool.{Bool}
 use mathlib.Core.List.{List}
-use Prim.Native.Nat.{ℕ, _+_, _≤_, _<_}
+use Prim.Native.Nat.{ℕ, _<_}
 use native.Mathlib.Omega.{arith}
 use lib.Dec.{eqb}
 use lib.ListN.{length}
@@ -15,9 +16,6 @@ use Rattle.bpg_segment_export.proofs.TagLaws.{used-length, used-entry, 
 use borrow.Author.Needs.{needs}
 use Rattle.bpg_segment_export.proofs.tags.with_tag.Statement.{statement}
 use Rattle.bpg_segment_export.proofs.tags.with_tag.Tie as tie
-use Rattle.bpg_segment_export.proofs.tags.with_tag.Reads as reads
-use Rattle.bpg_segment_export.proofs.tags.with_tag.Lts as lts
-use Rattle.bpg_segment_export.proofs.tags.next_with.Reads as next-with-reads
 
 abbrev tagged : Bool → Range → Tagged
 tagged t p = record { once = t; payload = p }

@@ -1,8 +1,8 @@
+-- `call::import_segments` meets its contract.
 use mathlib.Core.Path.{_∙_}
 use mathlib.Core.List.{List}
-use Prim.Native.Nat.{ℕ, _+_, _≤_}
+use Prim.Native.Nat.{ℕ}
 use native.Mathlib.Omega.{arith}
-use lib.ListN.{length}
 use borrow.Author.Tests.{not-true, not-false}
 use Rattle.bpg_codec.specs.Lawful.{All, Byte}
 use Rattle.bpg_codec.proofs.Tokens.{all-bytes}
@@ -10,12 +10,6 @@ use Rattle.bpg_segment_import.proofs.CallLaws.{import-36, no-longer, im
 use borrow.Author.Needs.{needs}
 use Rattle.bpg_segment_import.proofs.call.import_segments.Statement.{statement}
 use Rattle.bpg_segment_import.proofs.call.import_segments.Tie as tie
-use Rattle.bpg_segment_import.proofs.call.import_segments.Reads as reads
-use Rattle.bpg_segment_import.proofs.call.import_segments.Lts as lts
-use Rattle.bpg_bytes.proofs.buffer.write.Reads as write-reads
-use Rattle.bpg_segment_import.proofs.profile.copy_profile.Reads as copy-profile-reads
-use Rattle.bpg_segment_reader.proofs.find.Reads as find-reads
-use Rattle.bpg_segment_rules.proofs.import_refused.Reads as import-refused-reads
 
 -- what was found
 module _ (k : tie.After-find) where

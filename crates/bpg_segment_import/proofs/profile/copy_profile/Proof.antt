@@ -1,5 +1,6 @@
+-- `profile::copy_profile` meets its contract.
 use mathlib.Core.List.{List}
-use Prim.Native.Nat.{ℕ, _+_, _-_, _≤_, _<_}
+use Prim.Native.Nat.{ℕ, _+_, _-_, _≤_}
 use native.Mathlib.Omega.{arith}
 use lib.ListN.{length, drop}
 use Rattle.bpg_codec.specs.Lawful.{All, Byte}
@@ -9,10 +10,6 @@ use Rattle.bpg_segment_import.proofs.CopyLaws.{Copied, copied-none, cop
 use borrow.Author.Needs.{needs}
 use Rattle.bpg_segment_import.proofs.profile.copy_profile.Statement.{statement}
 use Rattle.bpg_segment_import.proofs.profile.copy_profile.Tie as tie
-use Rattle.bpg_segment_import.proofs.profile.copy_profile.Reads as reads
-use Rattle.bpg_segment_import.proofs.profile.copy_profile.Lts as lts
-use Rattle.bpg_bytes.proofs.arithmetic.least.Reads as least-reads
-use Rattle.bpg_bytes.proofs.buffer.write.Reads as write-reads
 
 abbrev Inv-loop : tie.InvT-loop
 Inv-loop run at out₀ p₀ next₀ out p next = (p ≤ length run) × Copied run (profileIn (drop at run)) out₀ next₀ p out next
@@ -53,15 +50,6 @@ loop-holds c =
     let s = start (c .before) in
     (s .pre .0, copied-none (run (c .before)) (bytes (c .before)) (s .args .at) _ (s .pre .1 .0) (s .args .out .now) (s .args .to .0) (s .pre .1 .1))
 
-add-start : tie.Need-add-start Inv-loop μ-loop
-add-start c = search needs
-
-add-least : tie.Need-add-least Inv-loop μ-loop
-add-least c = search needs
-
-least-requires : tie.Need-least-requires Inv-loop μ-loop
-least-requires c κs = search needs
-
 sub-write : tie.Need-sub-write Inv-loop μ-loop
 sub-write c = omega (arith, inside (c .before) .0)
 
@@ -70,9 +58,6 @@ part-write-start c = omega (arith, inside (c .before) .0)
 
 part-write-end : tie.Need-part-write-end Inv-loop μ-loop
 part-write-end c = omega (arith, inside (c .before) .0, inside (c .before) .1)
-
-write-requires : tie.Need-write-requires Inv-loop μ-loop
-write-requires c κs = search needs
 
 loop-less : tie.Need-loop-less Inv-loop μ-loop
 loop-less c =
@@ -112,13 +97,13 @@ copy-profile-spec =
     Inv-loop
     μ-loop
     loop-holds
-    add-start
-    add-least
-    least-requires
+    (λ c. search needs)
+    (λ c. search needs)
+    (λ c κs. search needs)
     sub-write
     part-write-start
     part-write-end
-    write-requires
+    (λ c κs. search needs)
     loop-less
     loop-again
     same-length

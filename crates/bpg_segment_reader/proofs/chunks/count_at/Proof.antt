@@ -1,12 +1,10 @@
+-- `chunks::count_at` meets its contract.
 use mathlib.Core.Path.{sym, _∙_}
 use native.Mathlib.Omega.{arith}
 use lib.Seq.{getD-drop}
 use borrow.Author.Needs.{needs}
 use Rattle.bpg_segment_reader.proofs.chunks.count_at.Statement.{statement}
 use Rattle.bpg_segment_reader.proofs.chunks.count_at.Tie as tie
-use Rattle.bpg_segment_reader.proofs.chunks.count_at.Reads as reads
-use Rattle.bpg_segment_reader.proofs.chunks.count_at.Lts as lts
-use Rattle.bpg_bytes.proofs.byte_at.Reads as byte-at-reads
 
 returns : tie.Need-returns
 returns c =

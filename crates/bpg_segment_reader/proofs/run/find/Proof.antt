@@ -1,11 +1,8 @@
+-- `run::find` meets its contract.
 use Rattle.bpg_segment_reader.proofs.RunLaws.{found}
 use borrow.Author.Needs.{needs}
 use Rattle.bpg_segment_reader.proofs.run.find.Statement.{statement}
 use Rattle.bpg_segment_reader.proofs.run.find.Tie as tie
-use Rattle.bpg_segment_reader.proofs.run.find.Reads as reads
-use Rattle.bpg_segment_reader.proofs.run.find.Lts as lts
-use Rattle.bpg_segment_reader.proofs.chunks.judge_chunks.Reads as judge-chunks-reads
-use Rattle.bpg_segment_reader.proofs.segment.part_at.Reads as part-at-reads
 
 returns : tie.Need-returns
 returns c =

@@ -1,16 +1,13 @@
-use Prim.Native.Nat.{_+_, _-_, _≤_, _<_}
+-- `segment::part_at` meets its contract.
+use Prim.Native.Nat.{_+_, _-_, _≤_}
 use native.Mathlib.Omega.{arith}
 use borrow.Author.Tests.{not-true, not-false}
 use mathlib.Core.Path.{sym, _∙_}
-use lib.ListN.{length, drop, length-drop}
+use lib.ListN.{length, length-drop}
 use Rattle.bpg_segment_reader.proofs.SegmentLaws.{answered, absent-short, absent-other, present}
 use borrow.Author.Needs.{needs}
 use Rattle.bpg_segment_reader.proofs.segment.part_at.Statement.{statement}
 use Rattle.bpg_segment_reader.proofs.segment.part_at.Tie as tie
-use Rattle.bpg_segment_reader.proofs.segment.part_at.Reads as reads
-use Rattle.bpg_segment_reader.proofs.segment.part_at.Lts as lts
-use Rattle.bpg_segment_reader.proofs.segment.field_at.Reads as field-at-reads
-use Rattle.bpg_bytes.proofs.compare.equal.Reads as equal-reads
 
 -- a long enough segment stands there
 module _ (e : tie.Else1) where
@@ -22,45 +19,21 @@ module _ (e : tie.Else1) where
       let f = answered (start .args .run .now) (start .args .at) (start .args .marker) (e .before .field-at .result) (e .before .field-at .ensures) (omega (arith, e .if1 .left)) in
       omega (arith, f .2, length-drop (start .args .at) (start .args .run .now))
 
-field-at-requires : tie.Need-field-at-requires
-field-at-requires c κs = search needs
-
-add-if1 : tie.Need-add-if1
-add-if1 c = search needs
-
 returns : tie.Need-returns
-returns c = let s = c .before .before .before .before in absent-short (s .args .run .now) (s .args .at) (s .args .marker) (s .args .prefix .now) (s .pre .0) (c .before .field-at .result) (c .before .field-at .ensures) (c .if1 .taken)
-
-add-start : tie.Need-add-start
-add-start c = search needs
-
-add-start-2 : tie.Need-add-start-2
-add-start-2 c = search needs
-
-add-equal : tie.Need-add-equal
-add-equal c = search needs
-
-sub-equal : tie.Need-sub-equal
-sub-equal c = search needs
-
-part-equal-start : tie.Need-part-equal-start
-part-equal-start c = search needs
+returns c =
+    let s = c .before .before .before .before in
+    absent-short (s .args .run .now) (s .args .at) (s .args .marker) (s .args .prefix .now) (s .pre .0) (c .before .field-at .result) (c .before .field-at .ensures) (c .if1 .taken)
 
 part-equal-end : tie.Need-part-equal-end
 part-equal-end c = omega (arith, room c, c .if1 .left)
-
-equal-requires : tie.Need-equal-requires
-equal-requires c κs = search needs
 
 returns-2 : tie.Need-returns-2
 returns-2 c =
     let b = c .before in
     let e = b .before .before in
     let s = start e in
-    absent-other (s .args .run .now) (s .args .at) (s .args .marker) (s .args .prefix .now) (s .pre .0) (e .before .field-at .result) (e .before .field-at .ensures) (e .if1 .left) (sym (b .equal .ensures) ∙ not-true _ (c .if2 .taken))
-
-add-t8 : tie.Need-add-t8
-add-t8 c = search needs
+    absent-other (s .args .run .now) (s .args .at) (s .args .marker) (s .args .prefix .now) (s .pre .0) (e .before .field-at .result) (e .before .field-at .ensures)
+    (e .if1 .left) (sym (b .equal .ensures) ∙ not-true _ (c .if2 .taken))
 
 add-t11 : tie.Need-add-t11
 add-t11 c = omega (arith, room (c .before .before .before))
@@ -70,23 +43,24 @@ returns-3 c =
     let b = c .before in
     let e = b .before .before in
     let s = start e in
-    present (s .args .run .now) (s .args .at) (s .args .marker) (s .args .prefix .now) (s .pre .0) (e .before .field-at .result) (e .before .field-at .ensures) (e .if1 .left) (sym (b .equal .ensures) ∙ not-false _ (c .if2 .left))
+    present (s .args .run .now) (s .args .at) (s .args .marker) (s .args .prefix .now) (s .pre .0) (e .before .field-at .result) (e .before .field-at .ensures) (e .if1 .left)
+    (sym (b .equal .ensures) ∙ not-false _ (c .if2 .left))
 
 pub part-at-spec : {M : Type 1} → statement M
 part-at-spec =
     tie.close
     (tie.spec
-    field-at-requires
-    add-if1
+    (λ c κs. search needs)
+    (λ c. search needs)
     returns
-    add-start
-    add-start-2
-    add-equal
-    sub-equal
-    part-equal-start
+    (λ c. search needs)
+    (λ c. search needs)
+    (λ c. search needs)
+    (λ c. search needs)
+    (λ c. search needs)
     part-equal-end
-    equal-requires
+    (λ c κs. search needs)
     returns-2
-    add-t8
+    (λ c. search needs)
     add-t11
     returns-3)

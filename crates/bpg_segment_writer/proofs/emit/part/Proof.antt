@@ -1,10 +1,8 @@
+-- `emit::part` meets its contract.
 use Rattle.bpg_segment_writer.proofs.WriteLaws.{part-put-none, part-fits, part-put-some}
 use borrow.Author.Needs.{needs}
 use Rattle.bpg_segment_writer.proofs.emit.part.Statement.{statement}
 use Rattle.bpg_segment_writer.proofs.emit.part.Tie as tie
-use Rattle.bpg_segment_writer.proofs.emit.part.Reads as reads
-use Rattle.bpg_segment_writer.proofs.emit.part.Lts as lts
-use Rattle.bpg_segment_writer.proofs.emit.segment.Reads as segment-reads
 
 returns : tie.Need-returns
 returns c =
@@ -17,9 +15,6 @@ segment-requires c κs =
     let s = e .before .before .before .before in
     (s .pre .0, part-fits (s .args .out .now) (s .args .at .0) (s .args .marker) (s .args .prefix .now) (s .args .payload .now) (e .if1 .left) (s .pre .1))
 
-same-length : tie.Need-same-length
-same-length c = search needs
-
 returns-2 : tie.Need-returns-2
 returns-2 c =
     let g = c .before .before in
@@ -28,4 +23,4 @@ returns-2 c =
     part-put-some (s .args .out .now) (s .args .at .0) (s .args .marker) (s .args .prefix .now) (s .args .payload .now) (e .if1 .left) (g .segment .ensures)
 
 pub part-spec : {M : Type 1} → statement M
-part-spec = tie.close (tie.spec returns segment-requires same-length returns-2)
+part-spec = tie.close (tie.spec returns segment-requires (λ c. search needs) returns-2)

@@ -1,20 +1,17 @@
-use mathlib.Core.Path.{_≡_, refl, sym, ap, ap₂, _∙_, subst}
-use mathlib.Core.List.{List, [], _∷_, _++_}
+-- `emit::profile` meets its contract.
+use mathlib.Core.Path.{_≡_, sym, ap, _∙_, subst}
+use mathlib.Core.List.{List, _++_}
 use Prim.Native.Nat.{ℕ, _+_, _-_, _*_, _/_, _≤_, _<_, min}
 use native.Mathlib.Omega.{arith}
 use lib.ListN.{length, take, drop, length-take}
 use borrow.Author.Needs.{needs}
-use Rattle.bpg_segment_rules.specs.Runs.{chunkCount, chunks, iccPrefix}
+use Rattle.bpg_segment_rules.specs.Runs.{chunks, iccPrefix}
 use Rattle.bpg_segment_rules.specs.Segments.{segment}
 use Rattle.bpg_segment_rules.proofs.ChunkLaws.{count-is}
 use Rattle.bpg_writer.proofs.PutLaws.{put-same}
 use Rattle.bpg_segment_writer.proofs.WriteLaws.{Chunked, cut-is, chunked-none, chunked-fits, chunked-more, chunked-length, chunked-all}
 use Rattle.bpg_segment_writer.proofs.emit.profile.Statement.{statement}
 use Rattle.bpg_segment_writer.proofs.emit.profile.Tie as tie
-use Rattle.bpg_segment_writer.proofs.emit.profile.Reads as reads
-use Rattle.bpg_segment_writer.proofs.emit.profile.Lts as lts
-use Rattle.bpg_bytes.proofs.arithmetic.least.Reads as least-reads
-use Rattle.bpg_segment_writer.proofs.emit.chunk.Reads as chunk-reads
 
 abbrev Inv-loop : tie.InvT-loop
 Inv-loop out₀ payload len total next₀ k₀ out next k = (k ≤ total) × Chunked payload total out₀ next₀ out next k
@@ -40,38 +37,14 @@ module _ (s : tie.Start Inv-loop μ-loop) where
   piece : (k to : ℕ) → k < total → to ≡ min (k * 65519 + 65519) (length icc) → take (to - k * 65519) (drop (k * 65519) icc) ≡ take 65519 (drop (k * 65519) icc)
   piece k to h e = ap (λ (t : ℕ). take (t - k * 65519) (drop (k * 65519) icc)) e ∙ cut-is icc (k * 65519) (omega arith)
 
-add-total : tie.Need-add-total Inv-loop μ-loop
-add-total c = omega arith
-
 loop-holds : tie.Need-loop-holds Inv-loop μ-loop
 loop-holds c = let s = c .before .before in (omega arith, chunked-none (icc s) (total s) (s .args .out .now) (s .args .at .0) (fits s))
-
-mul-from : tie.Need-mul-from Inv-loop μ-loop
-mul-from c = omega arith
-
-add-least : tie.Need-add-least Inv-loop μ-loop
-add-least c = omega arith
-
-least-requires : tie.Need-least-requires Inv-loop μ-loop
-least-requires c κs = search needs
-
-add-chunk : tie.Need-add-chunk Inv-loop μ-loop
-add-chunk c = omega arith
 
 cast-chunk : tie.Need-cast-chunk Inv-loop μ-loop
 cast-chunk c = omega (arith, few (c .before .before .before .before .before .before))
 
 cast-chunk-2 : tie.Need-cast-chunk-2 Inv-loop μ-loop
 cast-chunk-2 c = omega (arith, few (c .before .before .before .before .before .before))
-
-sub-chunk : tie.Need-sub-chunk Inv-loop μ-loop
-sub-chunk c = omega arith
-
-part-chunk-start : tie.Need-part-chunk-start Inv-loop μ-loop
-part-chunk-start c = omega arith
-
-part-chunk-end : tie.Need-part-chunk-end Inv-loop μ-loop
-part-chunk-end c = omega arith
 
 chunk-requires : tie.Need-chunk-requires Inv-loop μ-loop
 chunk-requires c κs =
@@ -85,12 +58,6 @@ chunk-requires c κs =
       omega (arith, length-take 65519 (drop (k * 65519) (icc s))),
       chunked-fits (icc s) (total s) (s .args .out .now) (s .args .at .0) (fits s) (a .loop .out) (a .loop .next) k (a .loop .inv .1) (l .loop-test .taken),
     )
-
-add-k : tie.Need-add-k Inv-loop μ-loop
-add-k c = omega arith
-
-loop-less : tie.Need-loop-less Inv-loop μ-loop
-loop-less c = omega arith
 
 loop-again : tie.Need-loop-again Inv-loop μ-loop
 loop-again c =
@@ -125,20 +92,20 @@ profile-spec =
     (tie.spec
     Inv-loop
     μ-loop
-    add-total
+    (λ c. omega arith)
     loop-holds
-    mul-from
-    add-least
-    least-requires
-    add-chunk
+    (λ c. omega arith)
+    (λ c. omega arith)
+    (λ c κs. search needs)
+    (λ c. omega arith)
     cast-chunk
     cast-chunk-2
-    sub-chunk
-    part-chunk-start
-    part-chunk-end
+    (λ c. omega arith)
+    (λ c. omega arith)
+    (λ c. omega arith)
     chunk-requires
-    add-k
-    loop-less
+    (λ c. omega arith)
+    (λ c. omega arith)
     loop-again
     same-length
     returns)

@@ -1,7 +1,8 @@
-use mathlib.Core.Path.{_≡_, sym, _∙_}
+-- `run::write_run` meets its contract.
+use mathlib.Core.Path.{_≡_, _∙_}
 use mathlib.Core.Bool.{true}
 use mathlib.Core.List.{List}
-use Prim.Native.Nat.{ℕ, _+_, _≤_}
+use Prim.Native.Nat.{ℕ, _≤_}
 use native.Mathlib.Omega.{arith}
 use lib.ListN.{length}
 use borrow.Author.Tests.{not-true, not-false}
@@ -13,13 +14,6 @@ use Rattle.bpg_segment_writer.proofs.RunLaws.{run-34, limits, run-20, r
 use borrow.Author.Needs.{needs}
 use Rattle.bpg_segment_writer.proofs.run.write_run.Statement.{statement}
 use Rattle.bpg_segment_writer.proofs.run.write_run.Tie as tie
-use Rattle.bpg_segment_writer.proofs.run.write_run.Reads as reads
-use Rattle.bpg_segment_writer.proofs.run.write_run.Lts as lts
-use Rattle.bpg_format.proofs.written_refused.Reads as written-refused-reads
-use Rattle.bpg_segment_writer.proofs.emit.part.Reads as part-reads
-use Rattle.bpg_segment_writer.proofs.emit.profile.Reads as profile-reads
-use Rattle.bpg_segment_writer.proofs.size.run.Reads as run-reads
-use Rattle.bpg_segment_writer.proofs.size.within_limits.Reads as within-limits-reads
 
 -- the limits were judged
 module _ (w : tie.After-within-limits) where
