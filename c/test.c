@@ -601,6 +601,47 @@ static void escapes(void) {
     ANSWERED(bpg_escape(bytes, sizeof bytes, out, 4, &count), BPG_BUFFER_TOO_SMALL);
 }
 
+/* File A with entries of these tags, whose payloads are the same. */
+static struct file tagged(const uint32_t *tags, size_t count, const uint8_t *payload, size_t length) {
+    struct bpg_record record;
+    struct file source = changed(0, 0x42), file;
+    size_t offset, k;
+    ANSWERED(bpg_read_record(source.bytes, source.length, &record, &offset), BPG_OK);
+    memcpy(source.bytes + source.length, payload, length);
+    for (k = 0; k < count; k++) {
+        CHECK(bpg_push_entry(&record, tags[k], (uint32_t)source.length, (uint32_t)length));
+    }
+    ANSWERED(bpg_write_record(&record, source.bytes, source.length + length, file.bytes, sizeof file.bytes, &file.length), BPG_OK);
+    return file;
+}
+
+static void segments(void) {
+    static const uint32_t tags[] = {BPG_TAG_ICC_PROFILE, BPG_TAG_XMP, BPG_TAG_EXIF, BPG_TAG_XMP};
+    static const uint8_t exif[] = {0xff, 0xe1, 0x00, 0x0a, 'E', 'x', 'i', 'f', 0, 0, 'h', 'i'};
+    static uint8_t big[70000];
+    struct file file = tagged(tags, 3, (const uint8_t *)"hi", 2), twice = tagged(tags, 4, (const uint8_t *)"", 0);
+    uint8_t run[128], back[128];
+    size_t count, offset, exif_len, xmp_len, icc_len;
+    ANSWERED(bpg_export_segments(file.bytes, file.length, run, sizeof run, &count, &offset), BPG_OK);
+    CHECK(count == sizeof exif + 35 + 20 && offset == 0 && memcmp(run, exif, sizeof exif) == 0);
+    ANSWERED(bpg_import_segments(run, count, back, sizeof back, &exif_len, &xmp_len, &icc_len), BPG_OK);
+    CHECK(exif_len == 2 && xmp_len == 2 && icc_len == 2 && memcmp(back, "hihihi", 6) == 0);
+    ANSWERED(bpg_import_segments(run, count, back, 5, &exif_len, &xmp_len, &icc_len), BPG_BUFFER_TOO_SMALL);
+    CHECK(exif_len == 0 && xmp_len == 0 && icc_len == 0);
+    ANSWERED(bpg_import_segments(run, count - 1, back, sizeof back, &exif_len, &xmp_len, &icc_len), BPG_BAD_SEGMENTS);
+    ANSWERED(bpg_export_segments(file.bytes, file.length, run, count - 1, &count, &offset), BPG_BUFFER_TOO_SMALL);
+    CHECK(count == 0 && offset == 0);
+    ANSWERED(bpg_export_segments(twice.bytes, twice.length, run, sizeof run, &count, &offset), BPG_TAG_TWICE);
+    ANSWERED(bpg_export_segments(A, 9, run, sizeof run, &count, &offset), BPG_TRUNCATED);
+    CHECK(offset == 9);
+    /* EXIF of 65,528 bytes: file A with one entry */
+    memcpy(big, A, 10);
+    big[5] = 0x08;
+    memcpy(big + 10, "\x83\xff\x7c\x01\x83\xff\x78", 7);
+    memcpy(big + 17 + 65528, A + 10, sizeof A - 10);
+    ANSWERED(bpg_export_segments(big, 17 + 65528 + sizeof A - 10, run, sizeof run, &count, &offset), BPG_PAYLOAD_TOO_LONG);
+}
+
 /* The first number with these words. */
 static unsigned first_with(const char *text) {
     unsigned number = 0;
@@ -722,6 +763,7 @@ int main(void) {
     escapes();
     player();
     player_files();
+    segments();
     statuses();
     printf("%u checks passed, %u failed\n", passed, failed);
     return failed == 0 ? 0 : 1;

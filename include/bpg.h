@@ -3,9 +3,9 @@
  * The functions without a body here are those of the proved library (libbpg, made from crates/bpg_export): what each one answers is
  * proved, for every input. The proof does not cover
  *   - a pointer that is null or not aligned (with a length of 0 pass any valid address), or memory that is shorter than its length says;
- *   - memory that is written and overlaps anything else that is passed: out, or a list (numbers, durations), with file, source, unit, bytes
- *     or numbers, or with head; the two lists of bpg_batch with each other, buffer or lengths; a buffer of the calls on samples with another
- *     buffer or a plane; the results (*offset, *count, *tag, *start, *length, the counts of bpg_partition) with each other or with these;
+ *   - memory that is written and overlaps anything else that is passed: out, or a list (numbers, durations), with file, source, unit, bytes,
+ *     run, numbers or head; the two lists of bpg_batch with each other, buffer or lengths; a buffer of the calls on samples with another buffer
+ *     or a plane; the results (*offset, *count, *tag, *start, *length, *exif_len, .., the counts of bpg_partition) with each other or with these;
  *   - memory that another thread changes during a call;
  *   - this header itself: its declarations, and the inline functions, which are plain C over the proved ones. c/test compiles it as C and
  *     as C++ and runs all of it.
@@ -109,6 +109,9 @@ enum bpg_alpha_kind {
     X(BPG_UNEQUAL_LENGTHS, 31, "the planes and buffers of samples differ in length") \
     X(BPG_BAD_SAMPLE_DEPTH, 32, "the depth of the samples is not 8 to 14") \
     X(BPG_SAMPLE_TOO_LARGE, 33, "a sample is above the largest of its depth") \
+    X(BPG_PAYLOAD_TOO_LONG, 34, "a payload is too long for JPEG segments") \
+    X(BPG_TAG_TWICE, 35, "an EXIF, XMP or ICC profile entry stands twice") \
+    X(BPG_BAD_SEGMENTS, 36, "the run is not one of EXIF, XMP and ICC segments as export makes it") \
     X(BPG_UNPLAYABLE, 37, "a loop has no frame or more than 256, a duration of 0, or a frame period number of 0")
 
 enum bpg_status {
@@ -318,6 +321,17 @@ uint8_t bpg_unescape(const uint8_t *unit, size_t unit_len, uint8_t *out, size_t 
 /* Writes the bytes with emulation prevention bytes, as they stand in a NAL unit, from the start of out; *count is their number, 0 if
  * refused with 20. */
 uint8_t bpg_escape(const uint8_t *bytes, size_t bytes_len, uint8_t *out, size_t out_len, size_t *count);
+
+/* Writes the EXIF, XMP and ICC profile payloads of a file (tags 1, 3 and 2) as JPEG application segments, in this order, from the start of out; *count
+ * is how many bytes these are, 0 if refused. They stand in a JPEG after its first two bytes. An empty payload has no segment. The payloads are taken as
+ * they are: the extra zero byte with which libbpg's EXIF begins stays. An export has at most 4,633 bytes more than the file. Refusals are those of
+ * bpg_read, with their *offset; then 35, 34 and 20. */
+uint8_t bpg_export_segments(const uint8_t *file, size_t file_len, uint8_t *out, size_t out_len, size_t *count, size_t *offset);
+
+/* Writes the payloads of a run of such segments, end to end from the start of out: EXIF, XMP, ICC profile. Their lengths, 0 for an absent one, are 0 if
+ * refused. The run must be one that bpg_export_segments can make, with no other segment and no byte more; a buffer as long as the run is always enough.
+ * Refusals: 36, then 20. */
+uint8_t bpg_import_segments(const uint8_t *run, size_t run_len, uint8_t *out, size_t out_len, size_t *exif_len, size_t *xmp_len, size_t *icc_len);
 
 /* ---- Samples after decoding: planes of 16-bit samples in, buffers of the same length out. M = 2^depth - 1 is the largest sample. Refusals, in
  * this order: 31 where the planes and buffers are not all of one length, 32 for a depth that is not 8 to 14, 33 for a sample above M in any

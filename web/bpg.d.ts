@@ -206,6 +206,12 @@ export class Bpg {
   /** How many bytes of a file are its head, entry heads, payloads, HEVC headers and data. */
   partition(file: Uint8Array): Partition;
 
+  /** The EXIF, XMP and ICC payloads of a file as JPEG segments, in this order, for a JPEG after its first two bytes. */
+  exportSegments(file: Uint8Array, out?: Uint8Array): Uint8Array;
+
+  /** The payloads of a run of such segments, each in a new array; an absent one is empty. */
+  importSegments(run: Uint8Array): { exif: Uint8Array; xmp: Uint8Array; icc: Uint8Array };
+
   /** The bytes of a NAL unit without its emulation prevention bytes. */
   unescape(unit: Uint8Array, out?: Uint8Array): Uint8Array;
 

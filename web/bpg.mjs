@@ -257,6 +257,33 @@ export class Bpg {
     return { head, entryHeads, payloads, headers, data };
   }
 
+  /** The EXIF, XMP and ICC payloads of a file as JPEG segments, in this order: a new array, or the start of `out`. */
+  exportSegments(file, out) {
+    const bytes = fileBytes(file);
+    if (out !== undefined) checkBytes(out, 'the buffer');
+    // 10 bytes stand before EXIF, 33 before XMP, 18 before each of at most 255 chunks.
+    const most = bytes.length + 10 + 33 + 18 * 255;
+    const length = Math.min(out?.length ?? most, most);
+    const at = this.#put(bytes, length);
+    const { room, results } = this.#memory;
+    const status = this.#calls.bpg_export_segments(room, BigInt(bytes.length), at, BigInt(length), results, results + 8);
+    return this.#written(status & 0xff, this.#memory.result(1), at, out);
+  }
+
+  /** The payloads of a run of such segments, each in a new array; an absent one is empty. */
+  importSegments(run) {
+    checkBytes(run, 'the run');
+    const at = this.#put(run, run.length);
+    const memory = this.#memory;
+    const { room, results } = memory;
+    const size = BigInt(run.length);
+    const status = this.#calls.bpg_import_segments(room, size, at, size, results, results + 8, results + 16);
+    this.#accepted(status & 0xff, 0);
+    const [exif, xmp, icc] = [0, 1, 2].map((k) => memory.result(k));
+    const payload = (start, length) => memory.bytes.slice(at + start, at + start + length);
+    return { exif: payload(0, exif), xmp: payload(exif, xmp), icc: payload(exif + xmp, icc) };
+  }
+
   /** The bytes of a NAL unit without its emulation prevention bytes: a new array, or the start of `out`. */
   unescape(unit, out) {
     return this.#copied('bpg_unescape', unit, (length) => length, out);

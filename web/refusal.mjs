@@ -36,6 +36,9 @@ const REASONS = {
   32: ['BadSampleDepth', 'the depth of the samples is not 8 to 14'],
   33: ['SampleTooLarge', 'a sample is above the largest of its depth'],
   37: ['Unplayable', 'a loop has no frame or more than 256, a duration of 0, or a frame period number of 0'],
+  34: ['PayloadTooLong', 'a payload is too long for JPEG segments'],
+  35: ['TagTwice', 'an EXIF, XMP or ICC profile entry stands twice'],
+  36: ['BadSegments', 'the run is not one of EXIF, XMP and ICC segments as export makes it'],
 };
 
 /** A call's refusal: its number, the offset in the file of what was refused (0 where none is named), its name and its words. */

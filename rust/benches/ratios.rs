@@ -55,6 +55,8 @@ fn main() {
         canonicalizing(name, size);
     }
     measuring();
+    exporting();
+    importing();
     counting_frames("few marks", Marks::Few);
     counting_frames("many marks", Marks::Many);
     timing_frames("still", &sample::still(Marks::Few, 1 << 24));
@@ -317,6 +319,39 @@ fn listed(size: usize) -> (Vec<u8>, [u64; plain::NUMBERS]) {
     let mut list = [0; plain::NUMBERS];
     plain::read_list(&file, &mut list).expect("the file is valid");
     (file, list)
+}
+
+/// A profile of 12 MiB as segments, against copying as many bytes.
+fn exporting() {
+    let file = &sample::profile(12 << 20)[..];
+    let run = &bpg::export_segments_to_vec(file).expect("the file is valid")[..];
+    let race = Race::run(
+        &mut buffer(run.len()),
+        [
+            &mut |out| ok(bpg::export_segments(black_box(file), black_box(out))),
+            &mut |out| ok(plain::export_segments(black_box(file), black_box(out))),
+            &mut |out| black_box(out).copy_from_slice(black_box(run)),
+        ],
+    );
+    row_copying("bpg_export_segments", "12 MiB", run.len(), &race, [0, 1]);
+}
+
+/// And back. Plain Rust joins the payloads before it copies them.
+fn importing() {
+    let run =
+        &bpg::export_segments_to_vec(&sample::profile(12 << 20)).expect("the file is valid")[..];
+    let count = |lengths: [usize; 3]| lengths.iter().sum();
+    let race = Race::run(
+        &mut buffer(run.len()),
+        [
+            &mut |out| {
+                black_box(bpg::ffi::import_segments(black_box(run), black_box(out)));
+            },
+            &mut |out| ok(plain::import_segments(black_box(run), black_box(out)).map(count)),
+            &mut |out| black_box(out).copy_from_slice(black_box(run)),
+        ],
+    );
+    row_copying("bpg_import_segments", "12 MiB", run.len(), &race, [0, 1]);
 }
 
 fn counting_frames(name: &str, marks: Marks) {

@@ -114,6 +114,23 @@ extern "C" {
         data: *mut usize,
         offset: *mut usize,
     ) -> u8;
+    fn bpg_export_segments(
+        file: *const u8,
+        file_len: usize,
+        out: *mut u8,
+        out_len: usize,
+        count: *mut usize,
+        offset: *mut usize,
+    ) -> u8;
+    fn bpg_import_segments(
+        run: *const u8,
+        run_len: usize,
+        out: *mut u8,
+        out_len: usize,
+        exif_len: *mut usize,
+        xmp_len: *mut usize,
+        icc_len: *mut usize,
+    ) -> u8;
     fn bpg_unescape(
         unit: *const u8,
         unit_len: usize,
@@ -435,6 +452,41 @@ pub fn partition(file: &[u8]) -> (u8, [usize; 5], usize) {
         )
     };
     (status, [head, entry_heads, payloads, headers, data], offset)
+}
+
+/// Status, count and offset; on success that many bytes stand at the start of `out`.
+pub fn export_segments(file: &[u8], out: &mut [u8]) -> (u8, usize, usize) {
+    let [mut count, mut offset] = [UNSET; 2];
+    // SAFETY: pointers and lengths of slices and of locals; see above.
+    let status = unsafe {
+        bpg_export_segments(
+            file.as_ptr(),
+            file.len(),
+            out.as_mut_ptr(),
+            out.len(),
+            &mut count,
+            &mut offset,
+        )
+    };
+    (status, count, offset)
+}
+
+/// Status, and the lengths of EXIF, XMP and ICC, which on success stand end to end at the start of `out`.
+pub fn import_segments(run: &[u8], out: &mut [u8]) -> (u8, [usize; 3]) {
+    let [mut exif, mut xmp, mut icc] = [UNSET; 3];
+    // SAFETY: pointers and lengths of slices and of locals; see above.
+    let status = unsafe {
+        bpg_import_segments(
+            run.as_ptr(),
+            run.len(),
+            out.as_mut_ptr(),
+            out.len(),
+            &mut exif,
+            &mut xmp,
+            &mut icc,
+        )
+    };
+    (status, [exif, xmp, icc])
 }
 
 /// Status and count; on success that many bytes stand at the start of `out`.

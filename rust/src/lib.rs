@@ -62,6 +62,7 @@ mod read;
 mod record;
 mod refusal;
 pub mod samples;
+mod segments;
 mod span;
 mod thumbnails;
 mod write;
@@ -82,6 +83,9 @@ pub use partition::{partition, Partition};
 pub use read::{data, entries, entry, payload, read};
 pub use record::Record;
 pub use refusal::{Reason, Refusal};
+#[cfg(feature = "alloc")]
+pub use segments::export_segments_to_vec;
+pub use segments::{export_segments, import_segments, Payloads};
 pub use span::Span;
 pub use thumbnails::check_thumbnails;
 pub use write::{canonical_size, canonicalize, write, write_size};

@@ -3,8 +3,8 @@
 //!
 //! `BPG_SEED` gives another run; `BPG_FILES`, `BPG_RECORDS`, `BPG_FRAMED` (files whose data is made of units,
 //! for the calls on frames), `BPG_SLICES` (for emulation prevention), `BPG_NESTED` (files with thumbnails),
-//! `BPG_BATCHES`, `BPG_PARTED` (files for their partition), `BPG_SAMPLES`, `BPG_LOOPS` and `BPG_HEADS` another number of cases.
-//! A difference fails the test and prints the case and both answers.
+//! `BPG_BATCHES`, `BPG_SAMPLES`, `BPG_HEADS`, `BPG_TAGGED` (files whose metadata is exported), `BPG_PARTED` (files for their
+//! partition) and `BPG_LOOPS` another number of cases. A difference fails the test and prints the case and both answers.
 
 mod cases;
 mod held;
@@ -13,9 +13,9 @@ mod plain;
 use std::env;
 use std::thread;
 
-use cases::{batches, heads, large, nested, records, samples, Random};
+use cases::{batches, heads, large, nested, records, samples, segments, Random};
 use held::{
-    Buffers, Cases, Statuses, Table, BATCH_STATUSES, BODY_STATUSES, HEAD_STATUSES,
+    Buffers, Cases, Met, Statuses, Table, BATCH_STATUSES, BODY_STATUSES, HEAD_STATUSES,
     PARTITION_STATUSES, SAMPLE_STATUSES, THUMBNAIL_STATUSES,
 };
 
@@ -179,6 +179,27 @@ fn the_player_agrees_with_plain_rust() {
         assert!(rare.is_empty(), "met fewer than 100 times: {rare:?}");
     }
     println!("{cases} loops, and {} files", cases / 4);
+}
+
+#[test]
+fn the_segments_agree_with_plain_rust() {
+    let seed = setting("BPG_SEED", 20_150_425);
+    let files = setting("BPG_TAGGED", 200_000);
+    let mut random = Random::new(seed.wrapping_add(THREADS + 4));
+    let mut buffers = Buffers::new(&mut random, plain::MAX_FILE + (1 << 16));
+    let mut met = Met::default();
+    for _ in 0..files {
+        let file = segments::file(&mut random);
+        held::segments(&file, &mut buffers, &mut random, &mut met);
+    }
+    // As many chunks as there may be, and a byte more.
+    for size in [12 << 20, 255 * 65_519, 255 * 65_519 + 1] {
+        held::long_profile(size, &mut buffers, &mut met);
+    }
+    println!("{}\n{}", met.export, met.import);
+    println!("{files} files with metadata, and the longest profiles");
+    let rare = [met.export.rare(100), met.import.rare(100)].concat();
+    assert!(rare.is_empty(), "met fewer than 100 times: {rare:?}");
 }
 
 fn setting(name: &str, default: u64) -> u64 {

@@ -22,7 +22,7 @@ large.set([...A, 0x80]);
 const refusal = (status, offset) => (error) => error instanceof BpgRefusal && error.status === status && error.offset === offset;
 // For the player: it takes a time besides the file.
 const atTime = (file) => bpg.frameAtTime(file, 0);
-const onFiles = ['read', 'entries', 'data', 'canonicalize', 'canonicalSize', 'frameCount', 'frames', 'checkThumbnails', 'partition'];
+const onFiles = ['read', 'entries', 'data', 'canonicalize', 'canonicalSize', 'frameCount', 'frames', 'checkThumbnails', 'exportSegments', 'partition'];
 
 const tests = {
   'the examples read as they should'() {
@@ -71,6 +71,8 @@ const tests = {
       assert.throws(() => bpg.batch(wrong, []), TypeError);
       assert.throws(() => bpg.escape(wrong), TypeError);
       assert.throws(() => bpg.unescape(wrong), TypeError);
+      assert.throws(() => bpg.importSegments(wrong), TypeError);
+      if (wrong !== undefined) assert.throws(() => bpg.exportSegments(A, wrong), TypeError);
       if (wrong !== undefined) assert.throws(() => bpg.canonicalize(A, wrong), TypeError);
     }
   },
@@ -141,6 +143,8 @@ const tests = {
     assert.throws(() => bpg.write(bpg.read(A), A, out), refusal(20, 0));
     assert.throws(() => bpg.escape(new Uint8Array(15), out), refusal(20, 0));
     assert.throws(() => bpg.unescape(bytes('00 00 02'), out), refusal(22, 0));
+    assert.throws(() => bpg.exportSegments(B.subarray(0, 9), out), refusal(2, 9));
+    assert.throws(() => bpg.importSegments(bytes('ff e1 00 08 45 78 69 66 00 00')), refusal(36, 0));
     assert.deepEqual(out, new Uint8Array(15).fill(0xa5));
   },
 

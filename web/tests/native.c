@@ -49,7 +49,7 @@ static void drop(struct list *list) {
 /* What a call has: its lists, which are kept until it is answered, its status and its results. */
 static struct list a, b, c, d, slices[8];
 static uint8_t status;
-static size_t first, second;
+static size_t first, second, third;
 
 static void put_status(void) {
     put(&status, sizeof status);
@@ -228,10 +228,23 @@ static void body(void) {
     put_status(), put_list(c), put_first();
 }
 
+static void export_segments(void) {
+    a = get_list(1), b = get_list(1);
+    status = bpg_export_segments(a.at, a.count, b.at, b.count, &first, &second);
+    put_status(), put_list(b), put_both();
+}
+
+static void import_segments(void) {
+    a = get_list(1), b = get_list(1);
+    status = bpg_import_segments(a.at, a.count, b.at, b.count, &first, &second, &third);
+    put_status(), put_list(b), put_both(), put(&third, sizeof third);
+}
+
 /* In the order of SIGNATURES in raw.mjs. */
 static void (*const calls[])(void) = {
     read_file, entry, write_file, canonicalize, frames, frame_count, check_thumbnails, batch, unescape, escape, write_size,
     canonical_size, unpremultiply, cmyk, default_from_white, ycgco, limited_luma, player_frame, player_tick_count, player_time, partition, head, body,
+    export_segments, import_segments,
 };
 
 int main(void) {

@@ -110,6 +110,11 @@ function callsOn(bytes) {
   add('bpg_head', random.once(2) ? bytes.slice(0, 27) : bytes, filled(BigUint64Array, random.once(20) ? random.below(13) : 13, 0xa5a5a5a5a5a5a5a5n));
   const head = raw.call('bpg_head', bytes, filled(BigUint64Array, 12, 0n)).lists[0];
   add('bpg_body', random.once(3) ? spoiltNumbers(head) : head, bytes, filled(BigUint64Array, random.once(20) ? random.below(130) : 130, 0xa5a5a5a5a5a5a5a5n));
+  const exported = raw.call('bpg_export_segments', bytes, filled(Uint8Array, bytes.length + 100, 0xa5));
+  add('bpg_export_segments', bytes, filled(Uint8Array, near(exported.results[0]), 0xa5));
+  const run = exported.lists[0].slice(0, near(exported.results[0]));
+  if (random.once(4) && run.length > 0) run[random.below(run.length)] = random.pick([0, 1, 2, 0xe1, 0xe2, 0xff]);
+  add('bpg_import_segments', run, filled(Uint8Array, near(run.length), 0xa5));
   const slice = bytes.slice(random.below(bytes.length + 1));
   add(random.pick(['bpg_unescape', 'bpg_escape']), slice, filled(Uint8Array, near(slice.length + 4), 0xa5));
   return cases;

@@ -35,6 +35,8 @@ export const SIGNATURES = {
   bpg_partition: [list(1), ...Array(6).fill(result(8))],
   bpg_head: [list(1), outList(8), result(8)],
   bpg_body: [list(8), list(1), outList(8), result(8)],
+  bpg_export_segments: [list(1), outList(1), result(8), result(8)],
+  bpg_import_segments: [list(1), outList(1), result(8), result(8), result(8)],
 };
 
 /** A number of 8, 4 or 1 bytes in the module's memory. */

@@ -206,6 +206,26 @@ function player(line) {
   same('ticks', answer(() => bpg.ticks(record, given[0]), (ticks) => `0 ticks ${ticks}`), want.replace(/^37.*/, '37 at 0'));
 }
 
+function exported(line) {
+  const { file, room_size, answer: [status, offset, count], room } = JSON.parse(line);
+  const got = raw.call('bpg_export_segments', bytes(file), filled(room_size));
+  same('exportSegments', `${got.status} ${got.results} ${hex(got.lists[0])}`, `${status} ${count},${offset} ${room}`);
+  const out = filled(room_size);
+  const lent = answer(() => bpg.exportSegments(bytes(file), out), (run) => `0 ${run.length}`);
+  same('exportSegments', `${lent} ${hex(out)}`, `${status === 0 ? `0 ${count}` : `${status} at ${offset}`} ${room}`);
+  if (status !== 20) same('exportSegments', answer(() => bpg.exportSegments(bytes(file)), hex), status === 0 ? room.slice(0, 2 * count) : `${status} at ${offset}`);
+}
+
+function imported(line) {
+  const { run, room_size, answer: [status, offset, , lengths], room } = JSON.parse(line);
+  const got = raw.call('bpg_import_segments', bytes(run), filled(room_size));
+  same('importSegments', `${got.status} ${got.results} ${hex(got.lists[0])}`, `${status} ${lengths} ${room}`);
+  const [exif, xmp, icc] = lengths.map((length) => 2 * length);
+  const wanted = [room.slice(0, exif), room.slice(exif, exif + xmp), room.slice(exif + xmp, exif + xmp + icc)];
+  const show = (payloads) => [payloads.exif, payloads.xmp, payloads.icc].map(hex).join();
+  if (status !== 20) same('importSegments', answer(() => bpg.importSegments(bytes(run)), show), status === 0 ? wanted.join() : `${status} at ${offset}`);
+}
+
 lines('read.txt').forEach(read);
 lines('canonical.txt').forEach(canonical);
 lines('write.jsonl').forEach(write);
@@ -217,6 +237,8 @@ lines('samples.txt').forEach(samples);
 lines('player.txt').forEach(player);
 lines('parts.txt').forEach(parts);
 lines('head.jsonl').forEach(head);
+lines('export.jsonl').forEach(exported);
+lines('import.jsonl').forEach(imported);
 const total = Object.values(counts).reduce((sum, count) => sum + count, 0);
 console.log(`vectors: ${total} answers (${Object.entries(counts).map(([name, count]) => `${name} ${count}`).join(', ')}), ${bad} differ`);
 process.exit(bad === 0 ? 0 : 1);

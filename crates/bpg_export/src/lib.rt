@@ -4,6 +4,7 @@ mod frames;
 mod heads;
 mod partition;
 mod samples;
+mod segments;
 mod sizes;
 mod thumbnails;
 

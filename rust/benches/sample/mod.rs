@@ -42,6 +42,34 @@ pub fn file(entries: usize, alpha: bool, size: usize) -> Vec<u8> {
     panic!("no file has {size} bytes");
 }
 
+/// A file with an ICC profile of `size` bytes.
+pub fn profile(size: usize) -> Vec<u8> {
+    let mut source = Random::new(2).bytes(size);
+    source.push(0xA7);
+    let [profile, data] = [(0, size), (size, 1)].map(|(start, length)| Span {
+        start: start as u32,
+        length: length as u32,
+    });
+    let mut record = Record {
+        pixel_format: 1,
+        extension_present_flag: true,
+        picture_width: 1920,
+        picture_height: 1080,
+        entry_count: 1,
+        color_header: header(),
+        data,
+        ..Record::default()
+    };
+    record.entries[0] = Entry {
+        tag: 2,
+        payload: profile,
+    };
+    let mut out = vec![0; size + 64];
+    let count = plain::write(&record, &source, &mut out).expect("the record is valid");
+    out.truncate(count);
+    out
+}
+
 /// How many marks of start codes and emulation prevention there are: two zero bytes and one of at most 3.
 #[derive(Clone, Copy)]
 pub enum Marks {

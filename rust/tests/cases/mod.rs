@@ -13,6 +13,7 @@ pub mod nested;
 pub mod random;
 pub mod records;
 pub mod samples;
+pub mod segments;
 pub mod sei;
 pub mod slices;
 pub mod units;

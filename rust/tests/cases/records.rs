@@ -69,7 +69,8 @@ impl Case {
 
     /// Numbers that their fields cannot hold, before and after a count of entries at its limit or above.
     fn misfit(&mut self, random: &mut Random) {
-        self.numbers[ENTRY_COUNT] = random.pick(&[1, 16, 17, 63, 64, 64, 65, 66, 255, u64::from(u32::MAX)]);
+        self.numbers[ENTRY_COUNT] =
+            random.pick(&[1, 16, 17, 63, 64, 64, 65, 66, 255, u64::from(u32::MAX)]);
         if random.one_in(4) {
             self.numbers[random.below(CODED)] = random.pick(&EDGES);
         }

@@ -20,6 +20,7 @@ pub mod player;
 mod reader;
 mod record;
 pub mod samples;
+mod segments;
 mod sei;
 mod thumbnails;
 mod writer;
@@ -33,6 +34,7 @@ pub use list::{read_list, record_of, ENTRY, FIXED, NUMBERS};
 pub use partition::partition;
 pub use reader::read;
 pub use record::{Entry, HevcHeader, Record, Span, MAX_ENTRIES};
+pub use segments::{export_segments, import_segments};
 pub use thumbnails::check_thumbnails;
 pub use writer::{write, write_list, write_list_size, write_size};
 

@@ -1,0 +1,4 @@
+-- The laws of import.
+pub mod ChunkLaws
+pub mod CopyLaws
+pub mod CallLaws

@@ -1,0 +1,3 @@
+-- The payloads found in a run.
+pub mod Places
+pub mod Runs

@@ -1,0 +1,2 @@
+-- Three payloads written as a run of segments.
+pub mod Sizes
