@@ -36,7 +36,7 @@ fn main() {
     println!("record being a list of numbers; `bpg::read` and the like: those of the Rust package. Marks are two zero bytes and");
     println!("one of at most 3: few are one in 4 KiB, many one in 13 bytes. Many frames: one in 64 bytes.");
     println!("Plain Rust answers and takes what the call does: the list, or the package's record, which is that list. In a row with *");
-    println!("it has a record of its own in its place, of a third of the size.");
+    println!("it has a record of its own in its place, of half the size.");
     println!();
     heading();
     for entries in [0, 3, 16, 64] {
