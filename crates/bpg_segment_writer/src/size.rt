@@ -1,8 +1,8 @@
 // How long the parts of a run are.
+use crate::emit::CHUNK_SIZE;
 ghost use mathlib.Core.Path.{_≡_};
 ghost use Prim.Native.Nat.{_+_, _*_, _/_, _≤_};
 ghost use Rattle.bpg_segment_writer.specs.Sizes.{isWithin, partSize, profileSize, runSize};
-use crate::emit::CHUNK_SIZE;
 
 // Refusal 34: EXIF and XMP have one segment each, and a profile at most 255 chunks.
 pub(crate) fn within_limits(exif: usize, xmp: usize, icc: usize) -> bool
