@@ -63,6 +63,7 @@ pub fn profile(size: usize) -> Vec<u8> {
     record.entries[0] = Entry {
         tag: 2,
         payload: profile,
+        tag_offset: 0,
     };
     let mut out = vec![0; size + 64];
     let count = plain::write(&record, &source, &mut out).expect("the record is valid");

@@ -43,7 +43,7 @@ pub fn export_segments(file: &[u8], out: &mut [u8]) -> Result<usize, Refusal> {
             put(&mut room, 0xE1, &[prefix, payload]);
         }
     }
-    for (number, chunk) in (1..).zip(icc.chunks(CHUNK)) {
+    for (number, chunk) in (1..=u8::MAX).zip(icc.chunks(CHUNK)) {
         put(&mut room, 0xE2, &[ICC, &[number, chunks as u8], chunk]);
     }
     Ok(size)
