@@ -26,9 +26,9 @@ extern "C" {
 #endif
 
 #define BPG_VERSION_MAJOR 0
-#define BPG_VERSION_MINOR 2
+#define BPG_VERSION_MINOR 3
 #define BPG_VERSION_PATCH 0
-#define BPG_VERSION "0.2.0"
+#define BPG_VERSION "0.3.0"
 
 /* The most bytes, and the most extension entries, that a file may have. */
 #define BPG_MAX_FILE 16777216
