@@ -91,7 +91,7 @@ export interface Reading extends BpgRecord {
   codedHeight: number;
 }
 
-/** What a loop shows: the frame, from 0, and whether it was played as often as it asks for, so that the last frame stays. */
+/** What a loop shows: the frame, from 0, and whether the loop was played as often as it asks for, so that its last frame stays. */
 export interface Shown {
   frame: number;
   ended: boolean;

@@ -66,7 +66,7 @@ after (suc k) c = after k (advanced c)
 abbrev pub entryCount : List ℕ → ℕ
 entryCount f = readFile f .«record» .«entry_count»
 
--- "yields one entry at a time, as tag and range": call k of `next`, k from 0, gives entry k
+-- "yields one entry at a time, as tag and range", and the tag's offset (request 11/13): call k of `next`, k from 0, gives entry k
 pub record Yields (file : RefT (List ℕ)) (start : Cursor) : Type 0 where
   -- "keeps the file with it": the part that `New` names
   pub same-region : (k : ℕ) → after k start .region ≡ start .region

@@ -43,6 +43,6 @@ module _ (f : List ℕ) where
 abbrev pub Partitions : Type 0
 Partitions = (f : List ℕ) (a : Accepted f) → Partitioned f (a .0)
 
--- a refused file: reading's number and place, and zeros
+-- a refused file: reading's status and offset, and zeros
 abbrev pub NoPartition : Type 0
 NoPartition = (f : List ℕ) → readFile f .status ≢ 0 → partitionAnswer f ≡ partitionOf (error (readFile f .status) (readFile f .offset))

@@ -6,7 +6,7 @@ use bpg_reader::read;
 ghost use mathlib.Core.Path.{_≡_};
 ghost use Rattle.bpg_partition.specs.Partitions.{partitionAnswer};
 
-// The head is read a second time, which costs next to nothing: the record does not say where it ends.
+// The head is read a second time, which costs next to nothing: the record of a file without entries does not say where it ends.
 pub fn partition(file: &[u8]) -> Partition
     ensures { λ r. ⌜ r ≡ partitionAnswer (now (file .entry)) ⌝ }
 {

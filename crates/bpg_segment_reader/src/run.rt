@@ -4,7 +4,8 @@ use crate::segment::Part;
 use crate::segment::part_at;
 ghost use Rattle.bpg_segment_reader.specs.Runs.{FoundIn};
 
-// Whether a run is one that export can make; and if so, where EXIF and XMP stand in it, and how long the profile is, whose chunks follow them.
+// Whether a run is one that export can make; and if so, where EXIF and XMP stand in it, and how long the profile is, whose chunks follow them. If not, the
+// two ranges lie in the run in order, and no more is promised of them; of `icc_length` nothing is. Where an empty part stands is open too.
 pub struct Found {
     pub good: bool,
     pub exif: Part,
