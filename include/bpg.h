@@ -168,7 +168,7 @@ struct bpg_hevc_header {
 };
 
 /* An extension entry: its tag, where its payload starts and how long it is, in the file that was read or in the source to write from, and where its
- * tag begins in the file that was read: that last number is not looked at in writing, but for that it is at most 2^32 - 1. */
+ * tag begins in the file that was read: writing does not use that last number, which must only be at most 2^32 - 1. */
 struct bpg_record_entry {
     uint64_t tag;        /* u32; enum bpg_tag, or any other */
     uint64_t start;      /* u32 */

@@ -6,7 +6,7 @@ export interface ByteRange {
   length: number;
 }
 
-/** An extension entry: its tag, where its payload stands, and where its tag begins in the file that was read: writing does not look at that. */
+/** An extension entry: its tag, where its payload stands, and where its tag begins in the file that was read. Writing does not use the last, and it may be left out. */
 export interface Entry extends ByteRange {
   tag: number;
   tagOffset?: number;
@@ -87,6 +87,8 @@ export interface Head {
 
 /** A record as a file gives it, with its size as HEVC codes it, which may be 2^32. */
 export interface Reading extends BpgRecord {
+  /** The entries, each with the offset of its tag. */
+  entries: Required<Entry>[];
   codedWidth: number;
   codedHeight: number;
 }
@@ -159,10 +161,10 @@ export class Bpg {
   body(head: Head, file: Uint8Array): Reading;
 
   /** The entries of a file in their order, each with its payload as a subarray; none for a refused file. */
-  entries(file: Uint8Array): (Entry & { payload: Uint8Array })[];
+  entries(file: Uint8Array): (Required<Entry> & { payload: Uint8Array })[];
 
   /** The entry with index k, from 0; null past the last one and for a refused file. */
-  entry(file: Uint8Array, k: number): Entry | null;
+  entry(file: Uint8Array, k: number): Required<Entry> | null;
 
   /** The payload of the entry with index k as a subarray; an empty one past the last entry and for a refused file. */
   payload(file: Uint8Array, k: number): Uint8Array;

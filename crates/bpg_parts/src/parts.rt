@@ -15,7 +15,7 @@ pub enum EntryAt {
     Absent,
 }
 
-// Tag and range of entry k, from 0. A refused file has no entry.
+// Tag, range and tag offset of entry k, from 0. A refused file has no entry.
 pub fn entry_at(file: &[u8], k: usize) -> EntryAt
     ensures { λ r. ⌜ r ≡ entryAnswer (now (file .entry)) k ⌝ }
 {
