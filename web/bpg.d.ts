@@ -87,8 +87,6 @@ export interface Head {
 
 /** A record as a file gives it, with its size as HEVC codes it, which may be 2^32. */
 export interface Reading extends BpgRecord {
-  /** The entries, each with the offset of its tag. */
-  entries: Required<Entry>[];
   codedWidth: number;
   codedHeight: number;
 }
