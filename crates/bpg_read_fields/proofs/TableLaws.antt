@@ -24,7 +24,7 @@ use Rattle.bpg_read_fields.specs.declared.values.Values.{Values}
 use Rattle.bpg_read_fields.specs.AllFields.{missingFields, fieldsAnswer}
 use Rattle.bpg_read_fields.specs.Table.{widths, gates, noValues, fieldCodec, fieldAt, valuesFrom, valuesAnswer, headerOf}
 use Rattle.bpg_read_fields.proofs.AllFieldLaws.{sizes-at, pcm-at, sps-at, flag-at, restSequence, rest-at, fields-at}
-use Rattle.bpg_read_fields.proofs.LoopLaws.{values-none, values-suc}
+use Rattle.bpg_read_fields.proofs.LoopLaws.{values-none, values-suc, field-absent}
 use Rattle.bpg_read_fields.proofs.FlagLaws.{flags, flags-cons, flags-none}
 
 module _ (bits : List Bool) where
@@ -45,10 +45,6 @@ module _ (bits : List Bool) where
   module _ (p w : ℕ) where
     abbrev here : Codec Bool ℕ
     here = select (eqb w 0) expGolomb (unsigned (min w 8))
-
-    pub field-absent : {b : Bool} → b ≡ false → decodeAt bits (fieldCodec b w) 0 p ≡ ok (0, p)
-    unfolding absent
-    field-absent g = rw (select-false {X = Codec Bool ℕ} here (absent 0) g)
 
     pub field-code : {b : Bool} → b ≡ true → eqb w 0 ≡ true → decodeAt bits (fieldCodec b w) 0 p ≡ E p
     field-code g e = rw (select-true {X = Codec Bool ℕ} here (absent 0) g, select-true {X = Codec Bool ℕ} expGolomb (unsigned (min w 8)) e)
@@ -77,7 +73,7 @@ module _ (bits : List Bool) where
     made-next o e = rw (values-suc bits n v p, e) (bind-assoc o _ _)
 
     absent-step : gate n v ≡ false → made (suc n) v p ≡ then n v (0, p)
-    absent-step g = made-next (ok (0, p)) (field-absent p width g)
+    absent-step g = made-next (ok (0, p)) (field-absent bits p width g)
 
     code-step : gate n v ≡ true → eqb width 0 ≡ true → made (suc n) v p ≡ (E p >>= then n v)
     code-step g e = made-next (E p) (field-code p width g e)

@@ -22,6 +22,11 @@ widths = 0 ∷ 0 ∷ 0 ∷ 0 ∷ 0 ∷ 1 ∷ 1 ∷ 4 ∷ 4 ∷ 0 ∷ 0 ∷ 1 ∷
 abbrev pub gates : List ℕ
 gates = 25 ∷ 25 ∷ 25 ∷ 25 ∷ 25 ∷ 25 ∷ 25 ∷ 6 ∷ 6 ∷ 6 ∷ 6 ∷ 6 ∷ 25 ∷ 25 ∷ 13 ∷ 13 ∷ replicate 9 14
 
+-- the field that follows a group whose gate is not 1: 12 the PCM fields (6); none the range flags (14), and none the extension (13), for with 13
+-- the flag 14 is absent, so 0
+abbrev pub afterGroup : (gate : ℕ) → ℕ
+afterGroup gate = select (eqb gate 6) 12 25
+
 abbrev pub noValues : List ℕ
 noValues = replicate 25 0 ++ (1 ∷ [])
 

@@ -4,7 +4,7 @@ use bpg_bits::bits::BitNumber;
 use bpg_bytes::BitPos;
 ghost use mathlib.Core.Path.{_≡_};
 ghost use Rattle.bpg_bits.specs.BitNumbers.{regionBits};
-ghost use Rattle.bpg_read_fields.specs.Table.{valuesAnswer, valuesFrom, noValues};
+ghost use Rattle.bpg_read_fields.specs.Table.{valuesAnswer, valuesFrom, noValues, afterGroup};
 
 // The values, after them a 1, and the position after the fields; or that one is missing.
 pub(crate) struct Values {
@@ -13,7 +13,19 @@ pub(crate) struct Values {
     pub(crate) next: BitPos,
 }
 
-// Reads them from `at` on. Field k has widths[k] bits (0: ue(v)), and is there if the value at gates[k] is 1.
+// The field that follows an absent group: 12 the PCM fields (gate 6). None follows the extension (13): the range flags are absent with it, as
+// their gate (14), one of its fields, is 0.
+fn after_group(gate: usize) -> usize
+    ensures { λ r. ⌜ r ≡ afterGroup gate ⌝ }
+{
+    if gate == 6 {
+        return 12;
+    }
+    25
+}
+
+// Reads them from `at` on. Field k has widths[k] bits (0: ue(v)), and is there if the value at gates[k] is 1;
+// where it is not, its group is passed over at once, since the values of its fields are 0 from the start.
 pub(crate) fn read(region: &[u8], at: BitPos) -> Values
     ensures { λ r. ⌜ r ≡ valuesAnswer (valuesFrom (regionBits (now (region .entry))) 25 noValues (at .0)) ⌝ }
 {
@@ -27,7 +39,11 @@ pub(crate) fn read(region: &[u8], at: BitPos) -> Values
     let mut k: usize = 0;
     while k < 25 {
         let gate = gates[k] as usize;
-        match field::read(region, BitPos(next), values[gate] == 1, widths[k]) {
+        if values[gate] != 1 {
+            k = after_group(gate);
+            continue;
+        }
+        match field::read(region, BitPos(next), widths[k]) {
             BitNumber::Missing => {
                 return Values {
                     found: false,

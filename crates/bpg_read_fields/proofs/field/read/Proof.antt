@@ -1,13 +1,13 @@
 -- `field::read` meets its contract.
-use mathlib.Core.Path.{sym, ap, _∙_}
+use mathlib.Core.Path.{refl, sym, ap, _∙_}
 use mathlib.Core.Bool.{Bool}
 use mathlib.Core.List.{List}
 use Prim.Native.Nat.{ℕ}
 use Rattle.bpg_bits.specs.BitNumbers.{regionBits}
 use Rattle.bpg_bits.specs.Answers.{bitAnswer}
-use Rattle.bpg_read_fields.proofs.TableLaws.{field-absent, field-code, field-bits}
+use Rattle.bpg_read_fields.proofs.TableLaws.{field-code, field-bits}
 use borrow.Author.Needs.{needs}
-use borrow.Author.Tests.{not-true, not-false, eq-eqb, ne-eqb}
+use borrow.Author.Tests.{eq-eqb, ne-eqb}
 use Rattle.bpg_read_fields.proofs.field.read.Statement.{statement}
 use Rattle.bpg_read_fields.proofs.field.read.Tie as tie
 
@@ -19,17 +19,14 @@ module _ (st : tie.Start) where
   at = st .args .at .0
 
 returns : tie.Need-returns
-returns c = let st = c .before .before in ap bitAnswer (sym (field-absent (bits st) (at st) (st .args .width) (not-true _ (c .if1 .taken))))
+returns c =
+    let st = c .before .before .before in
+    c .read .ensures ∙ ap bitAnswer (sym (field-code (bits st) (at st) (st .args .width) refl (eq-eqb _ _ (c .before .if1 .taken))))
 
 returns-2 : tie.Need-returns-2
 returns-2 c =
-    let st = c .before .before .before .before in
-    c .read .ensures ∙ ap bitAnswer (sym (field-code (bits st) (at st) (st .args .width) (not-false _ (c .before .before .if1 .left)) (eq-eqb _ _ (c .before .if2 .taken))))
-
-returns-3 : tie.Need-returns-3
-returns-3 c =
-    let st = c .before .before .before .before in
-    c .read2 .ensures ∙ ap bitAnswer (sym (field-bits (bits st) (at st) (st .args .width) (not-false _ (c .before .before .if1 .left)) (ne-eqb _ _ (c .before .if2 .left))))
+    let st = c .before .before .before in
+    c .read2 .ensures ∙ ap bitAnswer (sym (field-bits (bits st) (at st) (st .args .width) refl (ne-eqb _ _ (c .before .if1 .left))))
 
 pub read-spec : {M : Type 1} → statement M
-read-spec = tie.close (tie.spec returns (λ c κs. search needs) returns-2 (λ c κs. search needs) returns-3)
+read-spec = tie.close (tie.spec (λ c κs. search needs) returns (λ c κs. search needs) returns-2)

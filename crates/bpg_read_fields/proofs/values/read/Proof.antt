@@ -1,23 +1,24 @@
--- `values::read` meets its contract. The invariant: the fields that are left give what all of them do.
+-- `values::read` meets its contract. The invariant: the fields that are left give what all of them do, and their values are those of the start.
 use mathlib.Core.Path.{_≡_, refl, sym, ap, _∙_}
-use mathlib.Core.Bool.{Bool}
+use mathlib.Core.Bool.{Bool, true}
 use mathlib.Core.List.{List}
-use Prim.Native.Nat.{ℕ, _+_, _-_, _≤_}
+use Prim.Native.Nat.{ℕ, _+_, _-_, _≤_, _<_}
 use native.Mathlib.Omega.{arith}
-use lib.ListN.{length, set, length-set}
+use lib.ListN.{getD, set}
 use borrow.Author.Needs.{needs}
 use Rattle.bpg_codec.specs.Outcome.{Outcome, _>>=_}
 use Rattle.bpg_codec.specs.Codec.{decodeAt}
 use Rattle.bpg_bits.specs.BitNumbers.{regionBits}
 use Rattle.bpg_bits.proofs.Items.{value-outcome}
-use Rattle.bpg_read_fields.specs.Table.{noValues, fieldAt, valuesFrom, valuesAnswer}
-use Rattle.bpg_read_fields.proofs.LoopLaws.{values-end, values-next, missing-ends, gate-small}
+use Rattle.bpg_read_fields.specs.Table.{widths, gates, noValues, fieldCodec, valuesFrom, valuesAnswer}
+use Rattle.bpg_read_fields.proofs.LoopLaws.{values-end, values-present, missing-ends}
+use Rattle.bpg_read_fields.proofs.GroupLaws.{gate-small, forward, Before, before-next, before-end, group-absent}
 use Rattle.bpg_read_fields.proofs.values.read.Statement.{statement}
 use Rattle.bpg_read_fields.proofs.values.read.Tie as tie
 
 abbrev Inv-loop : tie.InvT-loop
 Inv-loop region widths gates values₀ next₀ k₀ values next k =
-    (k ≤ 25) × (length values ≡ 26) × (valuesFrom (regionBits region) (25 - k) values next ≡ valuesFrom (regionBits region) 25 noValues next₀)
+    (k ≤ 25) × Before k values × (valuesFrom (regionBits region) (25 - k) values next ≡ valuesFrom (regionBits region) 25 noValues next₀)
 
 abbrev μ-loop : tie.MeasureT-loop
 μ-loop region widths gates values₀ next₀ k₀ values next k = 25 - k
@@ -25,7 +26,7 @@ abbrev μ-loop : tie.MeasureT-loop
 -- a field was read, or it is missing
 module _ (r : tie.After-read Inv-loop μ-loop) where
   abbrev turn : tie.At-loop Inv-loop μ-loop
-  turn = r .before .before .before .before
+  turn = r .before .before .before .before .before
 
   abbrev start : tie.Start Inv-loop μ-loop
   start = turn .before .before .before .before
@@ -34,34 +35,54 @@ module _ (r : tie.After-read Inv-loop μ-loop) where
   bits = regionBits (start .args .region .now)
 
   abbrev field : Outcome (ℕ × ℕ)
-  field = decodeAt bits (fieldAt (turn .loop .k) (turn .loop .values)) 0 (turn .loop .next)
+  field = decodeAt bits (fieldCodec true (getD widths (turn .loop .k) 0)) 0 (turn .loop .next)
 
   abbrev rest : ℕ × ℕ → Outcome (List ℕ × ℕ)
   rest x = valuesFrom bits (25 - (turn .loop .k + 1)) (set (turn .loop .values) (turn .loop .k) (x .0)) (x .1)
 
+  more : turn .loop .k < 25
+  more = r .before .before .before .before .loop-test .taken
+
+  present : getD (turn .loop .values) (getD gates (turn .loop .k) 0) 0 ≡ 1
+  present = r .before .before .if1 .left
+
   whole : valuesFrom bits 25 noValues (start .args .at .0) ≡ (field >>= rest)
-  whole = sym (turn .loop .inv .2) ∙ values-next bits (turn .loop .k) (turn .loop .values) (turn .loop .next) (r .before .before .before .loop-test .taken)
+  whole = sym (turn .loop .inv .2) ∙ values-present bits (turn .loop .values) (turn .loop .next) (turn .loop .k) more present
 
 loop-holds : tie.Need-loop-holds Inv-loop μ-loop
-loop-holds c = (omega arith, refl, refl)
+loop-holds c = (omega arith, (refl, (λ i h. refl), λ e. omega arith), refl)
 
 cast-gate : tie.Need-cast-gate Inv-loop μ-loop
-cast-gate c = record { fits = omega (arith, gate-small (c .before .before .loop .k)) }
+cast-gate c = record { fits = omega (arith, gate-small (c .before .before .loop .k) (c .before .loop-test .taken)) }
 
-mul-read : tie.Need-mul-read Inv-loop μ-loop
-mul-read c = omega (arith, gate-small (c .before .before .loop .k))
+mul-if1 : tie.Need-mul-if1 Inv-loop μ-loop
+mul-if1 c = omega (arith, gate-small (c .before .before .loop .k) (c .before .loop-test .taken))
+
+loop-less : tie.Need-loop-less Inv-loop μ-loop
+loop-less c =
+    let t = c .before .before .before in
+    let f = forward (t .before .loop .k) (t .loop-test .taken) in
+    rw (c .after-group .ensures) (omega (arith, f .0, f .1))
+
+loop-again : tie.Need-loop-again Inv-loop μ-loop
+loop-again c =
+    let t = c .before .before .before in
+    let l = t .before .loop in
+    let h = t .loop-test .taken in
+    let whole = sym (group-absent (l .k) (l .values) h (l .inv .1) (c .before .if1 .taken) _ (l .next)) ∙ l .inv .2 in
+    rw (c .after-group .ensures) (forward (l .k) h .1, before-end (l .k) (l .values) h (l .inv .1), whole)
 
 returns : tie.Need-returns Inv-loop μ-loop
 returns c =
     let r = c .before .before in
     missing-ends (r .read .result) (field r) (r .read .ensures) (c .enum-told .given .1) (rest r) ∙ ap valuesAnswer (sym (whole r))
 
-loop-again : tie.Need-loop-again Inv-loop μ-loop
-loop-again c =
+loop-again-2 : tie.Need-loop-again-2 Inv-loop μ-loop
+loop-again-2 c =
     let r = c .before .before .before in
     let l = turn r .loop in
     let e = value-outcome {m = field r} (r .read .result) (r .read .ensures) _ _ (c .before .value .given .1) in
-    (omega arith, length-set (l .values) (l .k) _ ∙ l .inv .1, sym (whole r ∙ ap (λ (o : Outcome (ℕ × ℕ)). o >>= rest r) (sym e)))
+    (omega arith, before-next (l .k) (l .values) (more r) (l .inv .1) _ (present r), sym (whole r ∙ ap (λ (o : Outcome (ℕ × ℕ)). o >>= rest r) (sym e)))
 
 returns-2 : tie.Need-returns-2 Inv-loop μ-loop
 returns-2 c =
@@ -78,9 +99,12 @@ read-spec =
     loop-holds
     (λ c. c .loop-test .taken)
     cast-gate
-    mul-read
-    (λ c. gate-small (c .before .before .loop .k))
-    (λ c. c .before .loop-test .taken)
+    mul-if1
+    (λ c. gate-small (c .before .before .loop .k) (c .before .loop-test .taken))
+    (λ c. search needs)
+    loop-less
+    loop-again
+    (λ c. c .before .before .loop-test .taken)
     (λ c κs. search needs)
     (λ c. search needs)
     returns
@@ -89,5 +113,5 @@ read-spec =
     (λ c. search needs)
     (λ c. search needs)
     (λ c. search needs)
-    loop-again
+    loop-again-2
     returns-2)
