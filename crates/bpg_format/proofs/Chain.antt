@@ -10,7 +10,7 @@ use lib.Seq.{drop-drop}
 use borrow.Author.Tests.{le-leb}
 use Rattle.bpg_codec.specs.Select.{select}
 use Rattle.bpg_codec.specs.Outcome.{Outcome, ok, _>>=_, guard, Decoded, decoded}
-use Rattle.bpg_codec.specs.Codec.{atItem}
+use Rattle.bpg_codec.specs.Codec.{Codec, Exact, atItem}
 use Rattle.bpg_codec.specs.Bits.{Bit}
 use Rattle.bpg_codec.specs.Parts.{sequence, mapped, guarded, sized, item, absent, fixed}
 use Rattle.bpg_codec.specs.Regions.{thenRest, itemThenRest, mappedExact, derived, guardedRegion, rest, verbatim, decodeEach, repeated, packed}
@@ -26,10 +26,23 @@ use Rattle.bpg_format.specs.Content.{Flags, Extension, AnimationControl,
 use Rattle.bpg_format.specs.Rules.{hasAnimation, noAnimation}
 use Rattle.bpg_format.specs.Tests.{countsToEnd, dataAllowed}
 use Rattle.bpg_format.specs.Read.{ifPresent, readFlags, Head, readHead, readAnimation, readEntry, readEntries, readBlock, oneFlag, nineFlags, readFields}
-use Rattle.bpg_format.specs.Read.{readHeader, readAlphaHeader, readBody, readContent}
+use Rattle.bpg_format.specs.Read.{readHeader, readAlphaHeader, readBody, readContent, animationOf}
 use Rattle.bpg_format.specs.FileCodec.{flags, dimension, period, animationCodec, payload, extension, seenAfter, extensions, block, oneBit, optional}
 use Rattle.bpg_format.specs.FileCodec.{SizeFields, sizeFields, PcmFields, pcmFields, spsFields, noPcm, noSps, FieldTuple, fieldSequence, headerFrom}
-use Rattle.bpg_format.specs.FileCodec.{headerFields, header, alphaHeader, hevcBytes, body, judgedBody, parts, withLoop, file}
+use Rattle.bpg_format.specs.FileCodec.{headerFields, header, alphaHeader, hevcBytes, body, judgedBody, parts, withLoop, contentFrom, file}
+
+-- ---- two parts and what follows them, as steps in a row: each law takes one pair apart, which costs less than regrouping the whole chain
+
+module _ {S A B C : Type 0} where
+  sequence-then : (c : Codec S A) (d : A → Codec S B) (i p : ℕ) (l : List S) (k : Decoded S (A × B) → Outcome C) → (sequence c d .decode i p l >>= k)
+      ≡ (c .decode i p l >>= λ x. d (x .value) .decode i (x .next) (x .rest) >>= λ y. k (decoded (x .value, y .value) (y .next) (y .rest)))
+  unfolding sequence
+  sequence-then c d i p l k = simp bind-assoc
+
+  rest-then : (c : Codec S A) (d : A → Exact S B) (i p : ℕ) (l : List S) (k : A × B → Outcome C) → (thenRest c d .decode i p l >>= k)
+      ≡ (c .decode i p l >>= λ x. d (x .value) .decode i (x .next) (x .rest) >>= λ b. k (x .value, b))
+  unfolding thenRest
+  rest-then c d i p l k = simp bind-assoc
 
 -- ---- the extension block
 
@@ -82,8 +95,8 @@ module _ {A : Type 0} (i p : ℕ) (l : List Bool) where
       expGolombDecode i (c .next) (c .rest) >>= λ d.
       expGolombDecode i (d .next) (d .rest) >>= λ e.
       k (decoded (a .value, (b .value, (c .value, (d .value, e .value)))) (e .next) (e .rest)))
-  unfolding sizeFields sequence
-  sizes-then k = simp bind-assoc
+  unfolding sizeFields
+  sizes-then k = simp sequence-then
 
   pcm-then : (t : Bool) (k : Decoded Bool PcmFields → Outcome A) → (optional t pcmFields noPcm .decode i p l >>= k)
       ≡ (ifPresent t 0 (unsignedDecode 4 i) p l >>= λ a.
@@ -92,16 +105,16 @@ module _ {A : Type 0} (i p : ℕ) (l : List Bool) where
       ifPresent t 0 (expGolombDecode i) (c .next) (c .rest) >>= λ d.
       ifPresent t false (oneFlag i) (d .next) (d .rest) >>= λ e.
       k (decoded (a .value, (b .value, (c .value, (d .value, e .value)))) (e .next) (e .rest)))
-  unfolding select absent pcmFields sequence mapped
-  pcm-then true k = simp bind-assoc
+  unfolding select absent pcmFields mapped
+  pcm-then true k = simp sequence-then
   pcm-then false k = refl
 
   sps-then : (t : Bool) (k : Decoded Bool (Bool × ℕ) → Outcome A) → (optional t spsFields noSps .decode i p l >>= k)
       ≡ (ifPresent t false (oneFlag i) p l >>= λ a.
       ifPresent t 0 (unsignedDecode 7 i) (a .next) (a .rest) >>= λ b.
       k (decoded (a .value, b .value) (b .next) (b .rest)))
-  unfolding select absent spsFields sequence mapped
-  sps-then true k = simp bind-assoc
+  unfolding select absent spsFields mapped
+  sps-then true k = simp sequence-then
   sps-then false k = refl
 
 -- the fields by groups, as the codec has them
@@ -115,8 +128,8 @@ grouped : {A : Type 0} (i p : ℕ) (l : List Bool) (k : Decoded Bool FieldTuple 
     optional (sps .value) spsFields noSps .decode i (sps .next) (sps .rest) >>= λ ext.
     optional (ext .value .0) (fixed Bit 9 15 atItem) (replicate 9 false) .decode i (ext .next) (ext .rest) >>= λ nine.
     k (decoded (sizes .value, (sao .value, (pcm .value, (pcms .value, (strong .value, (sps .value, (ext .value, nine .value))))))) (nine .next) (nine .rest)))
-unfolding fieldSequence sequence
-grouped i p l k = simp bind-assoc
+unfolding fieldSequence
+grouped i p l k = simp sequence-then
 
 flag-chain : (i p : ℕ) (l : List Bool) → oneBit .decode i p l ≡ oneFlag i p l
 unfolding mapped
@@ -185,9 +198,14 @@ judged-then : {A : Type 0} (f : Flags) (n : ℕ) (es : List Extension) (i p : �
 unfolding judgedBody guardedRegion body hevcBytes thenRest rest
 judged-then f n es i p l k = simp (bind-assoc, alpha-chain, header-chain)
 
+-- the content that the parts give
+of-parts : (l : List ℕ) → file .decode 0 0 l ≡ (parts .decode 0 0 l >>= λ x. ok (contentFrom (x, animationOf (x .1 .1 .1 .1 .0))))
+unfolding file mappedExact withLoop derived
+of-parts l = simp bind-assoc
+
 in-parts : (l : List ℕ) → file .decode 0 0 l ≡ (guard (leb (length l) maxFile) 1 0 >>= λ _. headRest l >>= λ x. readBody (x .value) (x .rest))
-unfolding file mappedExact withLoop derived parts guardedRegion thenRest itemThenRest flags dimension guarded headRest readBlock readBody
-in-parts l = simp bind-assoc (simp (block-then, judged-then))
+unfolding parts guardedRegion itemThenRest flags dimension guarded headRest readBlock readBody
+in-parts l = of-parts l ∙ simp (rest-then, bind-assoc, block-then, judged-then)
 
 head-of : (l : List ℕ) → readHead l ≡ (headRest l >>= λ x. ok (x .value))
 unfolding readHead headRest
