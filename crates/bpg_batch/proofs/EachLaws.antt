@@ -8,8 +8,9 @@ use native.Mathlib.Omega.{arith}
 use lib.ListN.{length, take, drop, getD, set, length-set, drop-of-length-le, length-take}
 use lib.Seq.{take-all, take-suc-set, drop-drop}
 use Rattle.bpg_codec.proofs.Lists.{drop-next}
-use Rattle.bpg_format.specs.declared.answer.Reading.{Reading}
 use Rattle.bpg_format.specs.Records.{readFile}
+use Rattle.bpg_reader.specs.declared.file.Verdict.{Verdict}
+use Rattle.bpg_reader.specs.Calls.{verdictOf}
 use Rattle.bpg_batch.specs.Batches.{files, sum, statusesOf, offsetsOf, Complete}
 use Rattle.bpg_batch.proofs.SumLaws.{sum-next}
 use Rattle.bpg_batch.proofs.OffsetLaws.{offset-inside}
@@ -66,14 +67,14 @@ module _ {buffer lengths statuses offsets : List ℕ} {start k : ℕ} (s : ReadS
     file-inside = omega (arith, s .adds-up, sum-next lengths k h)
 
     -- the file as a part of the buffer
-    module _ (r : Reading) (e : r ≡ readFile (take (start + getD lengths k 0 - start) (drop start buffer))) where
-      reading-is : r ≡ readFile (take (getD lengths k 0) (drop start buffer))
-      reading-is = e ∙ ap (λ (n : ℕ). readFile (take n (drop start buffer))) (add-sub-cancel-left start (getD lengths k 0))
+    module _ (r : Verdict) (e : r ≡ verdictOf (readFile (take (start + getD lengths k 0 - start) (drop start buffer)))) where
+      verdict-is : r ≡ verdictOf (readFile (take (getD lengths k 0) (drop start buffer)))
+      verdict-is = e ∙ ap (λ (n : ℕ). verdictOf (readFile (take n (drop start buffer)))) (add-sub-cancel-left start (getD lengths k 0))
 
       pub offset-fits : r .offset ≤ getD lengths k 0
       offset-fits =
           let f = take (getD lengths k 0) (drop start buffer) in
-          omega (arith, ap (λ (x : Reading). x .offset) reading-is, offset-inside f, length-take (getD lengths k 0) (drop start buffer))
+          omega (arith, ap (λ (x : Verdict). x .offset) verdict-is, offset-inside f, length-take (getD lengths k 0) (drop start buffer))
 
       pub read-next : ReadSoFar buffer lengths (set statuses k (r .status)) (set offsets k (r .offset)) (start + getD lengths k 0) (k + 1)
       read-next =
@@ -82,6 +83,6 @@ module _ {buffer lengths statuses offsets : List ℕ} {start k : ℕ} (s : ReadS
             as-many-statuses = length-set statuses k (r .status) ∙ s .as-many-statuses;
             as-many-offsets = length-set offsets k (r .offset) ∙ s .as-many-offsets;
             adds-up = omega (arith, s .adds-up, sum-next lengths k h);
-            first-statuses = rw reading-is (store-next (λ f. readFile f .status) lengths buffer statuses start k (s .as-many-statuses) (s .first-statuses) h);
-            first-offsets = rw reading-is (store-next (λ f. readFile f .offset) lengths buffer offsets start k (s .as-many-offsets) (s .first-offsets) h);
+            first-statuses = rw verdict-is (store-next (λ f. readFile f .status) lengths buffer statuses start k (s .as-many-statuses) (s .first-statuses) h);
+            first-offsets = rw verdict-is (store-next (λ f. readFile f .offset) lengths buffer offsets start k (s .as-many-offsets) (s .first-offsets) h);
           }

@@ -1,5 +1,5 @@
 // The files of a buffer, one after the other.
-use bpg_reader::read;
+use bpg_reader::judge;
 ghost use mathlib.Core.Path.{_≡_};
 ghost use Rattle.bpg_batch.specs.Batches.{Complete, statusesOf, offsetsOf, files};
 
@@ -13,9 +13,9 @@ pub(crate) fn read_each(buffer: &[u8], lengths: &[u32], statuses: &mut [u8], off
     let mut k: usize = 0;
     while k < lengths.len() {
         let end = start + lengths[k] as usize;
-        let reading = read(&buffer[start..end]);
-        statuses[k] = reading.status;
-        offsets[k] = reading.offset as u32;
+        let verdict = judge(&buffer[start..end]);
+        statuses[k] = verdict.status;
+        offsets[k] = verdict.offset as u32;
         start = end;
         k += 1;
     }

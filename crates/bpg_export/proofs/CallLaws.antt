@@ -5,7 +5,6 @@ use mathlib.Core.List.{List}
 use Prim.Native.Nat.{ℕ}
 use lib.Dec.{ltb}
 use lib.ListN.{length}
-use Rattle.bpg_codec.specs.Outcome.{Outcome}
 use Rattle.bpg_codec.specs.Select.{select}
 use Rattle.bpg_format.specs.declared.record.Entry.{Entry}
 use Rattle.bpg_format.specs.declared.answer.Reading.{Reading}
@@ -26,12 +25,9 @@ use Rattle.bpg_export.specs.Calls.{listedAnswer, listedNumbers, readAnsw
 abbrev Listed : Reading → (numbers : List ℕ) → (status offset : ℕ) (after : List ℕ) → Type 0
 Listed r numbers s o after = (s ≡ listedAnswer r numbers .status) × ((o ≡ listedAnswer r numbers .offset) × (after ≡ listedNumbers r numbers))
 
-pub listed-parts : (numbers : List ℕ) (r q : Reading) (w : Written) (after : List ℕ) → r ≡ q → w ≡ writtenAnswer (listed (length numbers) r)
-    → after ≡ writtenBuffer (listed (length numbers) r) numbers → Listed q numbers (w .status) (w .offset) after
-listed-parts numbers r q w after e a b =
-    let o = ap (listed (length numbers)) e in
-    let answer = a ∙ ap writtenAnswer o in
-    (ap (λ (x : Written). x .status) answer, (ap (λ (x : Written). x .offset) answer, b ∙ ap (λ (x : Outcome (List ℕ)). writtenBuffer x numbers) o))
+pub listed-parts : (numbers : List ℕ) (r : Reading) (w : Written) (after : List ℕ) → w ≡ writtenAnswer (listed (length numbers) r)
+    → after ≡ writtenBuffer (listed (length numbers) r) numbers → Listed r numbers (w .status) (w .offset) after
+listed-parts numbers r w after a b = (ap (λ (x : Written). x .status) a, (ap (λ (x : Written). x .offset) a, b))
 
 module _ (head file numbers : List ℕ) {s o : ℕ} {after : List ℕ} where
   pub none-given : Listed (eitherReading false head file) numbers s o after

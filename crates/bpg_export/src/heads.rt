@@ -15,8 +15,7 @@ pub(crate) fn read_list(
     ensures { λ _. ⌜ now (offset .exit) ≡ listedAnswer (eitherReading «is_given» (now (head .entry)) (now (file .entry))) (now (numbers .entry)) .offset ⌝ }
     ensures { λ _. ⌜ now (numbers .exit) ≡ listedNumbers (eitherReading «is_given» (now (head .entry)) (now (file .entry))) (now (numbers .entry)) ⌝ }
 {
-    let reading = bpg_reader::read_or_body(file, head, is_given);
-    let listed = bpg_export_list::write(reading, numbers);
+    let listed = bpg_read_list::read(file, head, is_given, numbers);
     *offset = listed.offset;
     listed.status
 }

@@ -42,7 +42,7 @@ header-length h n = omega (arith, length-map (h .«range_flags») bit)
 
 -- ---- the entries
 
-entries-append : (a b : List Entry) → entriesNumbers (a ++ b) ≡ entriesNumbers a ++ entriesNumbers b
+pub entries-append : (a b : List Entry) → entriesNumbers (a ++ b) ≡ entriesNumbers a ++ entriesNumbers b
 unfolding entriesNumbers
 entries-append [] b = refl
 entries-append (e ∷ a) b = ap (λ (l : List ℕ). e .tag ∷ e .payload .start ∷ e .payload .length ∷ e .«tag_offset» ∷ l) (entries-append a b)
@@ -51,17 +51,6 @@ pub entries-length : (es : List Entry) → length (entriesNumbers es) ≡ 4 * le
 unfolding entriesNumbers
 entries-length [] = refl
 entries-length (e ∷ es) = omega (arith, entries-length es)
-
-entries-next : (es : List Entry) (k : ℕ) (d : Entry) → k < length es
-    → entriesNumbers (take (k + 1) es) ≡ entriesNumbers (take k es) ++ entryNumbers (getD es k d)
-unfolding entriesNumbers
-entries-next es k d h = rw (add-one, take-suc es k d) (entries-append (take k es) (getD es k d ∷ []))
-
--- ---- the headers
-
-two-headers : (hs : List Header) (d : Header) → length hs ≡ 2 → headersNumbers hs ≡ headerNumbers (getD hs 0 d) ++ headerNumbers (getD hs 1 d)
-unfolding headersNumbers
-two-headers hs d = by-length 2 (λ l. headersNumbers l ≡ headerNumbers (getD l 0 d) ++ headerNumbers (getD l 1 d)) (λ a b. simp append-nil) hs
 
 -- ---- parts written one after the other are one
 
@@ -82,41 +71,3 @@ filled-next {out} {at} {l = l} f m w h =
 module _ (out : List ℕ) where
   pub written-length : (at : ℕ) (l : List ℕ) → at + length l ≤ length out → length (written out at l) ≡ length out
   written-length at l h = ap length (sym (stored out at l h .0)) ∙ length-splice out at l h
-
-  -- one more entry
-  module _ (es : List Entry) (used : ℕ) (few : used ≤ length es) (long : listLength used ≤ length out) where
-    pub first-length : (k : ℕ) → k ≤ used → length (entriesNumbers (take k es)) ≡ 4 * k
-    first-length k h = entries-length (take k es) ∙ ap (λ (n : ℕ). 4 * n) (length-take-le k es (omega arith))
-
-    pub entry-written : (k : ℕ) (d : Entry) (o p : List ℕ) → k < used → o ≡ written out fixedLength (entriesNumbers (take k es))
-        → p ≡ written o (listLength k) (entryNumbers (getD es k d)) → p ≡ written out fixedLength (entriesNumbers (take (k + 1) es))
-    entry-written k d o p h q r =
-        let f : Filled out fixedLength (listLength k) (entriesNumbers (take k es)) o = record { is = q; ends = ap (λ (n : ℕ). fixedLength + n) (first-length k (omega arith)) } in
-        filled-next f (entryNumbers (getD es k d)) (r, refl) (omega arith) .is ∙ ap (written out fixedLength) (sym (entries-next es k d (omega arith)))
-
--- as many as there are
-pub take-used : (n : ℕ) (es : List Entry) → take (length (take n es)) es ≡ take n es
-take-used zero es = refl
-take-used (suc n) [] = refl
-take-used (suc n) (e ∷ es) = ap (λ (l : List Entry). e ∷ l) (take-used n es)
-
-in-order : (h l a b d c : List ℕ) → ((((h ++ l) ++ a) ++ b) ++ d) ++ c ≡ h ++ (l ++ ((a ++ b) ++ (d ++ c)))
-in-order h l a b d c = simp append-assoc
-
--- the parts of the fixed numbers
-module _ (r : Record) (w h : ℕ) (d : Header) (two : length (r .headers) ≡ 2) where
-  abbrev last : List ℕ
-  last = w ∷ h ∷ r .«entry_count» ∷ []
-
-  abbrev parts : List ℕ
-  parts =
-      ((((headNumbers r ++ animationNumbers r) ++ headerNumbers (getD (r .headers) 0 d)) ++ headerNumbers (getD (r .headers) 1 d)) ++ rangeNumbers (r .«data»)) ++ last
-
-  parts-are : parts ≡ fixedNumbers r w h
-  unfolding fixedNumbers
-  parts-are =
-      in-order (headNumbers r) (animationNumbers r) (headerNumbers (getD (r .headers) 0 d)) (headerNumbers (getD (r .headers) 1 d)) (rangeNumbers (r .«data»)) last
-      ∙ ap (λ (l : List ℕ). headNumbers r ++ (animationNumbers r ++ (l ++ (rangeNumbers (r .«data») ++ last)))) (sym (two-headers (r .headers) d two))
-
-  pub fixed-written : {out o : List ℕ} → Filled out 0 fixedLength parts o → (o ≡ written out 0 (fixedNumbers r w h)) × (length (fixedNumbers r w h) ≡ fixedLength)
-  fixed-written {out} f = (f .is ∙ ap (written out 0) parts-are, omega (arith, ap length parts-are, f .ends))

@@ -19,7 +19,7 @@ use Rattle.bpg_format.specs.Records.{usedEntries}
 use Rattle.bpg_format.specs.Write.{writtenAnswer, writtenBuffer}
 use Rattle.bpg_export_list.specs.Numbers.{fixedLength, listLength, fixedNumbers, entriesNumbers, readingNumbers}
 use Rattle.bpg_export_list.specs.Calls.{listed}
-use Rattle.bpg_export_list.proofs.NumberLaws.{Filled, filled-next, entries-length, take-used}
+use Rattle.bpg_export_list.proofs.NumberLaws.{Filled, filled-next, entries-length}
 
 module _ (numbers : List ℕ) (reading : Reading) where
   abbrev used : ℕ
@@ -32,7 +32,7 @@ module _ (numbers : List ℕ) (reading : Reading) where
   entries = entriesNumbers (usedEntries (reading .«record»))
 
   -- the answer, and the list after it
-  abbrev Answers : Written → List ℕ → Type 0
+  abbrev pub Answers : Written → List ℕ → Type 0
   Answers w after = (w ≡ writtenAnswer (listed (length numbers) reading)) × (after ≡ writtenBuffer (listed (length numbers) reading) numbers)
 
   by-outcome : (o : Outcome (List ℕ)) → listed (length numbers) reading ≡ o → Answers (writtenAnswer o) (writtenBuffer o numbers)
@@ -46,13 +46,11 @@ module _ (numbers : List ℕ) (reading : Reading) where
     list-short h = by-outcome (error 20 0) (rw (eq-eqb (reading .status) 0 z, lt-leb (listLength used) (length numbers) (omega arith)))
 
     pub list-written : listLength n ≤ length numbers → length fixed ≡ fixedLength → (o p : List ℕ) → o ≡ written numbers 0 fixed
-        → p ≡ written o fixedLength (entriesNumbers (take n (reading .«record» .entries))) → Answers (record { status = 0; offset = 0; count = listLength n }) p
+        → p ≡ written o fixedLength entries → Answers (record { status = 0; offset = 0; count = listLength n }) p
     list-written h k o p a b =
         let l = readingNumbers reading in
-        let es = reading .«record» .entries in
-        let in-use = ap entriesNumbers (ap (λ (m : ℕ). take m es) counted ∙ take-used (reading .«record» .«entry_count») es) in
         let f : Filled numbers 0 fixedLength fixed o = record { is = a; ends = omega arith } in
-        let w = filled-next f entries (b ∙ ap (written o fixedLength) in-use, entries-length (usedEntries (reading .«record»))) (omega arith) in
+        let w = filled-next f entries (b, entries-length (usedEntries (reading .«record»))) (omega arith) in
         let e : length l ≡ listLength n = omega (arith, w .ends) in
         let s = by-outcome (ok l) (rw (eq-eqb (reading .status) 0 z, le-leb (listLength used) (length numbers) (omega arith))) in
         (ap (λ (m : ℕ). record { status = 0; offset = 0; count = m }) (sym e) ∙ s .0, w .is ∙ sym (stored numbers 0 l (omega arith) .0) ∙ front l ∙ s .1)

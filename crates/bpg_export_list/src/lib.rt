@@ -1,4 +1,4 @@
-// A reading as a list of numbers, for callers that do not have its type.
+// A reading as a list of numbers, for callers that do not have its type: what its numbers are, and where its parts stand.
 mod list;
 
 pub use list::ALPHA;
@@ -8,4 +8,4 @@ pub use list::DATA;
 pub use list::FIXED;
 pub use list::LOOP;
 pub use list::put;
-pub use list::write;
+pub use list::put_header;

@@ -8,7 +8,7 @@ use bpg_reader::HeadReading;
 
 fn show_reading(reading: HeadReading) {
     let head = reading.head;
-    let numbers = bpg_read_head::call::head_numbers(head);
+    let numbers = bpg_head_call::call::head_numbers(head);
     text::show_answer(b"head ", reading.status, reading.offset);
     text::show_list(&numbers);
     text::show(b"\n");

@@ -2,9 +2,9 @@
 use bpg_export_list::put;
 use bpg_format::Written;
 use bpg_format::written_refused;
-use bpg_read_head::call;
-use bpg_read_head::call::HEAD_NUMBERS;
-use bpg_read_head::call::head_numbers;
+use bpg_head_call::call;
+use bpg_head_call::call::HEAD_NUMBERS;
+use bpg_head_call::call::head_numbers;
 ghost use mathlib.Core.Path.{_≡_};
 ghost use Rattle.bpg_head_list.specs.Calls.{headAnswer, headBuffer};
 

@@ -18,7 +18,7 @@ use Rattle.bpg_format.specs.Records.{recordOf, usedEntries, answerOf, readFile}
 use Rattle.bpg_format.proofs.ReadingLaws.{reads, answer}
 use Rattle.bpg_read_head.specs.declared.head.Head.{Head}
 use Rattle.bpg_read_head.specs.Heads.{headAnswer}
-use Rattle.bpg_reader.proofs.HeadOf.{headOf, head-of}
+use Rattle.bpg_read_survey.proofs.HeadOf.{headOf, head-of}
 use Rattle.bpg_partition.specs.Partitions.{headCount, entryHeadCount, payloadCount, headerCount, dataCount, partitionOf, partitionAnswer, payloadBytes}
 use Rattle.bpg_partition.proofs.CountLaws.{head-start, block-count, data-start, adds-up, record-payloads}
 

@@ -16,7 +16,7 @@ use Rattle.bpg_format.proofs.RangeLaws.{start-after, data-end}
 use Rattle.bpg_read_head.specs.declared.head.Head.{Head}
 use Rattle.bpg_read_head.specs.Heads.{headAnswer}
 use Rattle.bpg_parts.specs.Bounds.{bounds, blockBounds}
-use Rattle.bpg_reader.proofs.HeadOf.{headOf, head-of}
+use Rattle.bpg_read_survey.proofs.HeadOf.{headOf, head-of}
 
 pub refused-bounds : (file : List ℕ) (r : Reading) → r ≡ readFile file → r .status ≢ 0 → bounds 0 0 ≡ blockBounds file
 unfolding readFile blockBounds

@@ -36,7 +36,7 @@ module _ (region : List ℕ) (p : ℕ) where
     size : length (extensionBytes e) ≡ length (ue7Bytes (e .tag)) + length (ue7Bytes (length (e .payload))) + length (e .payload)
     size = simp length-append (omega arith)
 
-    small : length (e .payload) < 2 ^ 32
+    pub small : length (e .payload) < 2 ^ 32
     small = omega (arith, size, a .short, length-append (extensionBytes e) (blockBytes es), ap length (a .left), length-drop p region)
 
     pub entry-ahead : entryIn region p ≡ ok (decoded (record { tag = e .tag; size = length (e .payload) }) start (e .payload ++ blockBytes es))

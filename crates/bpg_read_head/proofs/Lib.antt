@@ -3,8 +3,3 @@ pub mod FlagLaws
 pub mod SizeLaws
 pub mod HeadSteps
 pub mod HeadLaws
-pub mod CallLaws
-pub mod PrefixLaws
-pub mod OwnBytes
-pub mod HeadRefusals
-pub mod Requirements

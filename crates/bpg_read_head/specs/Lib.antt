@@ -2,5 +2,3 @@
 pub mod FlagBytes
 pub mod Sizes
 pub mod Heads
-pub mod Calls
-pub mod Requirements

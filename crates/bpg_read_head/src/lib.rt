@@ -1,5 +1,4 @@
 // The head of a BPG file: magic and flags, width and height, and the lengths of the data and of the extension block.
-pub mod call;
 pub mod flags;
 pub mod head;
 mod size;

@@ -22,15 +22,16 @@ use Rattle.bpg_format.specs.Read.{Head, readHead, readBody, readContent, readin
 use Rattle.bpg_format.specs.Records.{answerOf, readFile}
 use Rattle.bpg_format.proofs.RuleLaws.{by-tag}
 use Rattle.bpg_format.proofs.ReadingRefusals.{content-refuses}
-use Rattle.bpg_read_head.specs.declared.call.CodedHead.{CodedHead}
-use Rattle.bpg_read_head.specs.Calls.{codedHead, headReading, headFile, HeadStatus, headNumbers, isHead}
-use Rattle.bpg_read_head.proofs.CallLaws.{own-head as own-numbers, same-means}
-use Rattle.bpg_read_head.proofs.HeadRefusals.{head-refuses}
-use Rattle.bpg_reader.specs.Calls.{readGiven, bodyList, bodyFile, BodyStatus}
+use Rattle.bpg_head_call.specs.declared.call.CodedHead.{CodedHead}
+use Rattle.bpg_head_call.specs.Calls.{codedHead, headReading, headFile, HeadStatus, headNumbers, isHead}
+use Rattle.bpg_head_call.proofs.CallLaws.{own-head as own-numbers, same-means}
+use Rattle.bpg_head_call.proofs.HeadRefusals.{head-refuses}
+use Rattle.bpg_read_survey.specs.Given.{readGiven, BodyStatus}
+use Rattle.bpg_reader.specs.Calls.{bodyList, bodyFile}
 use Rattle.bpg_reader.specs.Requirements.{headOfContent, HeadFirst, BodyRefusals}
-use Rattle.bpg_reader.proofs.HeadOf.{head-of}
+use Rattle.bpg_read_survey.proofs.HeadOf.{head-of}
 use Rattle.bpg_reader.proofs.FileLaws.{too-long}
-use Rattle.bpg_reader.proofs.GivenLaws.{given-long, given-refused, given-other, given-same, answer-long}
+use Rattle.bpg_read_survey.proofs.GivenLaws.{given-long, given-refused, given-other, given-same, content-error, content-body, given-refuses}
 
 -- ---- a file by its head
 
@@ -46,15 +47,7 @@ module _ {P : Type 0} (f : List ℕ) where
 
 body-long : (given : CodedHead) (f : List ℕ) → maxFile < length f → bodyFile given f ≡ refusedReading 1 0
 unfolding bodyList
-body-long given f h = sym (answer-long (isHead (headNumbers given)) f h)
-
-content-error : (f : List ℕ) → length f ≤ maxFile → (s o : ℕ) → readHead f ≡ error s o → readContent f ≡ error s o
-unfolding readContent
-content-error f short s o e = rw (le-leb (length f) maxFile short, e)
-
-content-body : (f : List ℕ) → length f ≤ maxFile → (h : Head) → readHead f ≡ ok h → readContent f ≡ readBody h (drop (h .end) f)
-unfolding readContent
-content-body f short h e = rw (le-leb (length f) maxFile short, e)
+body-long given f h = ap answerOf (given-long (isHead (headNumbers given)) f h)
 
 body-head : (given : CodedHead) (f : List ℕ) → length f ≤ maxFile → headFile f .status ≢ 0 → bodyFile given f ≡ refusedReading (headFile f .status) (headFile f .offset)
 unfolding bodyList headFile
@@ -106,24 +99,6 @@ other-head given f short z n =
     (λ h e _.
     by-tag (isHead (headNumbers given) (codedHead h)) (λ t. absurd (n (same-means given (codedHead h) t ∙ rw e)))
     (λ t. ap answerOf (given-other (isHead (headNumbers given)) f short h e t)))
-
-abbrev Numbered : (status offset : ℕ) → Type 0
-Numbered s o = BodyStatus s
-
-reading-number : (s : ℕ) → ReadingStatus s → BodyStatus s
-reading-number s t = member-later s 21 readingStatuses t
-
-given-refuses : (isGiven : CodedHead → Bool) (f : List ℕ) (s o : ℕ) → readGiven isGiven f ≡ error s o → BodyStatus s
-given-refuses isGiven f s o e =
-    either-way (length f) maxFile
-    (λ short.
-    by-head f
-    (λ t p w _. refuses-error Numbered t p (reading-number t (content-refuses f t p (content-error f short t p w))) s o (sym (given-refused isGiven f short t p w) ∙ e))
-    (λ h w _.
-    by-tag (isGiven (codedHead h))
-    (λ t. reading-number s (content-refuses f s o (content-body f short h w ∙ sym (given-same isGiven f short h w t) ∙ e)))
-    (λ t. refuses-error Numbered 21 0 tt s o (sym (given-other isGiven f short h w t) ∙ e))))
-    (λ long. refuses-error Numbered 1 0 tt s o (sym (given-long isGiven f long) ∙ e))
 
 number : (given : CodedHead) (f : List ℕ) → bodyFile given f .status ≢ 0 → BodyStatus (bodyFile given f .status)
 unfolding bodyList

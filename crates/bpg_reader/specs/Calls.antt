@@ -1,27 +1,12 @@
--- The body call (request 9/13): "a body call that is given a head and a file and carries on", which "repeats the head over its file and so trusts
--- nobody". Reading itself is `readContent`: the limit, `readHead`, `readBody`, and the body call is the same with one guard between the two.
-use mathlib.Core.Bool.{Bool}
-use mathlib.Core.List.{List, _∷_}
+-- What the calls that read answer. Of the body call (request 9/13), `readGiven` says what is read.
+use mathlib.Core.List.{List}
 use Prim.Native.Nat.{ℕ}
-use lib.Dec.{T, leb}
-use lib.ListN.{length, drop}
-use Rattle.bpg_codec.specs.Lists.{member}
-use Rattle.bpg_codec.specs.Outcome.{Outcome, _>>=_, guard}
-use Rattle.bpg_format.specs.Limits.{maxFile}
 use Rattle.bpg_format.specs.declared.answer.Reading.{Reading}
-use Rattle.bpg_format.specs.Content.{Content}
-use Rattle.bpg_format.specs.Read.{readHead, readBody, readingStatuses}
 use Rattle.bpg_format.specs.Records.{answerOf}
-use Rattle.bpg_read_head.specs.declared.call.CodedHead.{CodedHead}
-use Rattle.bpg_read_head.specs.Calls.{codedHead, headNumbers, isHead}
-
--- "the body gives 1, the head's, 21 at 0 for a head that is not this file's, then the rest"; `isGiven`: the head is the one that was given
-unfoldable pub readGiven : (isGiven : CodedHead → Bool) → List ℕ → Outcome Content
-readGiven isGiven l =
-    guard (leb (length l) maxFile) 1 0 >>= λ _.
-    readHead l >>= λ h.
-    guard (isGiven (codedHead h)) 21 0 >>= λ _.
-    readBody h (drop (h .end) l)
+use Rattle.bpg_head_call.specs.declared.call.CodedHead.{CodedHead}
+use Rattle.bpg_head_call.specs.Calls.{headNumbers, isHead}
+use Rattle.bpg_read_survey.specs.Given.{readGiven}
+use Rattle.bpg_reader.specs.declared.file.Verdict.{Verdict}
 
 -- with the head's numbers in a list, and with the head
 unfoldable pub bodyList : (given f : List ℕ) → Reading
@@ -30,9 +15,7 @@ bodyList given f = answerOf (readGiven (isHead given) f)
 abbrev pub bodyFile : (given : CodedHead) → List ℕ → Reading
 bodyFile given f = bodyList (headNumbers given) f
 
--- reading's numbers and 21: no other is given
-abbrev pub bodyStatuses : List ℕ
-bodyStatuses = 21 ∷ readingStatuses
+-- ---- reading's status and offset alone
 
-abbrev pub BodyStatus : ℕ → Type 0
-BodyStatus s = T (member s bodyStatuses)
+abbrev pub verdictOf : Reading → Verdict
+verdictOf r = record { status = r .status; offset = r .offset }

@@ -1,5 +1,4 @@
--- What reading the body of a file answers.
-pub mod Bodies
+-- What reading a file answers, all of it or on from its head.
 pub mod Assembled
 pub mod Calls
 pub mod Requirements

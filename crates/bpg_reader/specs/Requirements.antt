@@ -13,10 +13,11 @@ use Rattle.bpg_format.specs.Content.{Content}
 use Rattle.bpg_format.specs.Syntax.{blockBytes, dataLength, fileOf}
 use Rattle.bpg_format.specs.Rules.{Rules}
 use Rattle.bpg_format.specs.Records.{readFile}
-use Rattle.bpg_read_head.specs.declared.call.CodedHead.{CodedHead}
+use Rattle.bpg_head_call.specs.declared.call.CodedHead.{CodedHead}
 use Rattle.bpg_read_head.specs.FlagBytes.{codedFlags}
-use Rattle.bpg_read_head.specs.Calls.{headFile}
-use Rattle.bpg_reader.specs.Calls.{bodyFile, BodyStatus}
+use Rattle.bpg_head_call.specs.Calls.{headFile}
+use Rattle.bpg_read_survey.specs.Given.{BodyStatus}
+use Rattle.bpg_reader.specs.Calls.{bodyFile}
 
 -- the head of a content's file: "size and format", and the two lengths as the syntax codes them
 abbrev pub headOfContent : Content → CodedHead

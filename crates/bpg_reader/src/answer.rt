@@ -8,16 +8,20 @@ use bpg_read_head::head::Head;
 use bpg_read_headers::headers::HeadersReading;
 ghost use mathlib.Core.Path.{_≡_};
 ghost use Prim.Native.Nat.{_+_, _≤_, _-_, _*_, _/_, _^_};
+ghost use lib.Dec.{ltb};
 ghost use lib.ListN.{replicate};
+ghost use Rattle.bpg_codec.specs.Select.{select};
 ghost use Rattle.bpg_format.specs.Limits.{maxEntries, maxFile};
 ghost use Rattle.bpg_format.specs.Zero.{zeroEntry};
 ghost use Rattle.bpg_reader.specs.Assembled.{assembledRecord, assembledReading};
 
-// A size rounded up to a multiple of the smallest coding block, whose size is 2^log2_size.
-fn coded_size(size: u32, log2_size: u32) -> u64
-    requires { ⌜ «log2_size» ≤ 6 ⌝ }
-    ensures { λ r. ⌜ r ≡ (size + 2 ^ «log2_size» - 1) / 2 ^ «log2_size» * 2 ^ «log2_size» ⌝ }
+// A size rounded up to a multiple of the smallest coding block, whose size is 2^log2_size; 0 where that is above 6, as in no accepted header.
+pub fn coded_size(size: u32, log2_size: u32) -> u64
+    ensures { λ r. ⌜ r ≡ select (ltb 6 «log2_size») 0 ((size + 2 ^ «log2_size» - 1) / 2 ^ «log2_size» * 2 ^ «log2_size») ⌝ }
 {
+    if 6 < log2_size {
+        return 0;
+    }
     let unit = 1u64 << log2_size;
     (size as u64 + unit - 1) / unit * unit
 }

@@ -32,7 +32,7 @@ read-each-spec =
     (λ c. omega (arith, c .before .before .before .before .loop .inv .as-many-statuses))
     (λ c.
     let l = c .before .before .before .before in
-    omega (arith, c .before .before .before .shared-slice-known3 .given (l .before .loop .k), offset-fits (l .before .loop .inv) (l .loop-test .taken) _ (c .before .read .ensures .0)))
+    omega (arith, c .before .before .before .shared-slice-known3 .given (l .before .loop .k), offset-fits (l .before .loop .inv) (l .loop-test .taken) _ (c .before .judge .ensures)))
     (λ c. search needs)
     (λ c. omega (arith, c .before .before .before .before .before .loop .inv .as-many-offsets))
     (λ c. search needs)

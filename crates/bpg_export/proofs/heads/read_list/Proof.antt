@@ -8,9 +8,8 @@ use Rattle.bpg_export.proofs.heads.read_list.Tie as tie
 returns : tie.Need-returns
 returns c =
     let w = c .before .before in
-    let r = w .before .before in
-    let a = r .before .before .before .before .args in
-    listed-parts (a .numbers .now) (r .read-or-body .result) (eitherReading (a .is-given) (a .head .now) (a .file .now)) _ _ (r .read-or-body .ensures) (w .write .ensures .0) (w .write .ensures .1)
+    let a = w .before .before .before .before .before .args in
+    listed-parts (a .numbers .now) (eitherReading (a .is-given) (a .head .now) (a .file .now)) _ _ (w .read .ensures .0) (w .read .ensures .1)
 
 pub read-list-spec : {M : Type 1} → statement M
-read-list-spec = tie.close (tie.spec (λ c κs. search needs) (λ c κs. search needs) (λ c. search needs) returns)
+read-list-spec = tie.close (tie.spec (λ c κs. search needs) (λ c. search needs) returns)

@@ -1,0 +1,107 @@
+// The head of a file for callers that go by it alone (request 9/13): the list view fetches 27 bytes.
+use bpg_read_head::flags::Flags;
+use bpg_read_head::head;
+use bpg_read_head::head::Head;
+ghost use mathlib.Core.Path.{_≡_};
+ghost use Prim.Native.Nat.{_≤_};
+ghost use lib.ListN.{length};
+ghost use Rattle.bpg_head_call.specs.Calls.{fieldsOf, headNumbers, sameFlags, isHead, headFile};
+
+// How many fields a head has.
+pub const HEAD_NUMBERS: usize = 12;
+
+// The fields of a head as coded. Without the extension flag the extension length is 0.
+pub struct CodedHead {
+    pub flags: Flags,
+    pub picture_width: u32,
+    pub picture_height: u32,
+    pub data_length: u32,
+    pub extension_length: u32,
+}
+
+// Status 0 and the head; or a refusal and zeros.
+pub struct HeadReading {
+    pub status: u8,
+    pub offset: usize,
+    pub head: CodedHead,
+}
+
+// A head without the places that later refusals name; a refused one is all zero.
+pub fn coded(head: Head) -> CodedHead
+    ensures { λ r. ⌜ r ≡ fieldsOf head ⌝ }
+{
+    let flags = head.flags;
+    CodedHead {
+        flags,
+        picture_width: head.picture_width,
+        picture_height: head.picture_height,
+        data_length: head.data_length,
+        extension_length: head.extension_length,
+    }
+}
+
+// The fields as numbers, in the order of the file; a flag is 1 or 0.
+pub fn head_numbers(head: CodedHead) -> [u64; HEAD_NUMBERS]
+    ensures { λ r. ⌜ r ≡ headNumbers head ⌝ }
+{
+    let flags = head.flags;
+    [
+        flags.pixel_format as u64,
+        flags.alpha1_flag as u64,
+        flags.bit_depth_minus_8 as u64,
+        flags.color_space as u64,
+        flags.extension_present_flag as u64,
+        flags.alpha2_flag as u64,
+        flags.limited_range_flag as u64,
+        flags.animation_flag as u64,
+        head.picture_width as u64,
+        head.picture_height as u64,
+        head.data_length as u64,
+        head.extension_length as u64,
+    ]
+}
+
+// Whether the first eight numbers are these flags'.
+fn has_flags(list: &[u64], flags: Flags) -> bool
+    requires { ⌜ 12 ≤ length (now list) ⌝ }
+    ensures { λ r. ⌜ r ≡ sameFlags (now (list .entry)) flags ⌝ }
+{
+    let format = list[0] == flags.pixel_format as u64;
+    let alpha1 = list[1] == flags.alpha1_flag as u64;
+    let depth = list[2] == flags.bit_depth_minus_8 as u64;
+    let space = list[3] == flags.color_space as u64;
+    let extension = list[4] == flags.extension_present_flag as u64;
+    let alpha2 = list[5] == flags.alpha2_flag as u64;
+    let range = list[6] == flags.limited_range_flag as u64;
+    let animation = list[7] == flags.animation_flag as u64;
+    format & (alpha1 & (depth & (space & (extension & (alpha2 & (range & animation))))))
+}
+
+// Whether a list begins with the numbers of this head: no field differs. What stands after them is not looked at.
+pub fn is_head(list: &[u64], head: CodedHead) -> bool
+    ensures { λ r. ⌜ r ≡ isHead (now (list .entry)) head ⌝ }
+{
+    if list.len() < HEAD_NUMBERS {
+        return false;
+    }
+    let flags = head.flags;
+    let width = list[8] == head.picture_width as u64;
+    let height = list[9] == head.picture_height as u64;
+    let data = list[10] == head.data_length as u64;
+    let extension = list[11] == head.extension_length as u64;
+    let same = has_flags(list, flags);
+    same & (width & (height & (data & extension)))
+}
+
+// The head of a file. Its first 27 bytes are always enough, and so is all of a shorter file; whether the block fits the file is not judged.
+pub fn head(file: &[u8]) -> HeadReading
+    ensures { λ r. ⌜ r ≡ headFile (now (file .entry)) ⌝ }
+{
+    let reading = head::read(file);
+    let head = coded(reading);
+    HeadReading {
+        status: reading.status,
+        offset: reading.offset.0,
+        head,
+    }
+}

@@ -1,0 +1,3 @@
+-- Laws of a file's list.
+pub mod FixedLaws
+pub mod Listing

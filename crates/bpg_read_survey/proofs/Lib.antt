@@ -1,0 +1,8 @@
+-- Laws of surveying a file.
+pub mod HeadOf
+pub mod EntryBlock
+pub mod BodyChain
+pub mod BodyLaws
+pub mod GivenLaws
+pub mod FileRead
+pub mod Walking
