@@ -14,8 +14,8 @@ ghost use Rattle.bpg_format.specs.Rules.{Accepted};
 ghost use Rattle.bpg_format.specs.Records.{readFile};
 ghost use Rattle.bpg_reader.specs.Calls.{bodyList, bodyFile, verdictOf};
 
-// What `body` answers, with the head's numbers in a list, or `read`: for callers that do both.
-pub fn read_or_body(file: &[u8], given: &[u64], is_given: bool) -> Reading
+// What `body` answers, with the head's numbers in a list, or `read`.
+fn read_or_body(file: &[u8], given: &[u64], is_given: bool) -> Reading
     ensures { λ r. ⌜ r ≡ select «is_given» (bodyList (now (given .entry)) (now (file .entry))) (readFile (now (file .entry))) ⌝ }
 {
     let found = survey(file, given, is_given);

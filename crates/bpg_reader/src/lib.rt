@@ -10,4 +10,3 @@ pub use file::Verdict;
 pub use file::body;
 pub use file::judge;
 pub use file::read;
-pub use file::read_or_body;
