@@ -14,10 +14,11 @@ use Rattle.bpg_format.specs.Records.{readFile}
 use Rattle.bpg_format.specs.Parts.{entryOf}
 use Rattle.bpg_format.specs.Write.{writtenAnswer, writtenBuffer}
 use Rattle.bpg_export_list.specs.Calls.{listed}
+use Rattle.bpg_reader.specs.Calls.{eitherReading}
 use Rattle.bpg_parts.specs.declared.parts.EntryAt.{EntryAt}
 use Rattle.bpg_parts.specs.Entries.{entryAnswer}
 use Rattle.bpg_parts.proofs.PartLaws.{entry-in}
-use Rattle.bpg_export.specs.Calls.{listedAnswer, listedNumbers, readAnswer, readNumbers, bodyAnswer, bodyNumbers, eitherReading}
+use Rattle.bpg_export.specs.Calls.{listedAnswer, listedNumbers, readAnswer, readNumbers, bodyAnswer, bodyNumbers}
 
 -- ---- reading
 

@@ -1,9 +1,7 @@
 -- What reading answers to C and Rust, a record and a head being lists of numbers.
-use mathlib.Core.Bool.{Bool}
 use mathlib.Core.List.{List}
 use Prim.Native.Nat.{ℕ}
 use lib.ListN.{length}
-use Rattle.bpg_codec.specs.Select.{select}
 use Rattle.bpg_format.specs.declared.answer.Reading.{Reading}
 use Rattle.bpg_format.specs.declared.answer.Written.{Written}
 use Rattle.bpg_format.specs.Records.{readFile}
@@ -30,7 +28,3 @@ bodyAnswer head f numbers = listedAnswer (bodyList head f) numbers
 
 unfoldable pub bodyNumbers : (head f numbers : List ℕ) → List ℕ
 bodyNumbers head f numbers = listedNumbers (bodyList head f) numbers
-
--- for an inner contract: the one or the other
-abbrev pub eitherReading : (isGiven : Bool) (head f : List ℕ) → Reading
-eitherReading g head f = select g (bodyList head f) (readFile f)

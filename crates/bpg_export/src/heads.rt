@@ -1,7 +1,8 @@
 // Reading, in one call or two, for C and Rust, a head being 12 numbers.
 ghost use mathlib.Core.Path.{_≡_};
 ghost use Rattle.bpg_head_list.specs.Calls.{headAnswer, headBuffer};
-ghost use Rattle.bpg_export.specs.Calls.{eitherReading, listedAnswer, listedNumbers, bodyAnswer, bodyNumbers};
+ghost use Rattle.bpg_reader.specs.Calls.{eitherReading};
+ghost use Rattle.bpg_export.specs.Calls.{listedAnswer, listedNumbers, bodyAnswer, bodyNumbers};
 
 // Reads a file, or on from the list of its head, into the list of its record.
 pub(crate) fn read_list(

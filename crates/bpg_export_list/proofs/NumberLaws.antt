@@ -1,24 +1,19 @@
 -- A record's list in parts.
 use mathlib.Core.Path.{_≡_, refl, sym, ap, ap₂, _∙_}
-use mathlib.Core.Bool.{Bool, true, false, _&&_, and-false, and-assoc}
-use mathlib.Core.List.{List, [], _∷_, _++_, map, append-assoc, append-nil}
-use Prim.Native.Nat.{ℕ, zero, suc, _+_, _*_, _≤_, _<_}
-use native.Mathlib.Numerals.{add-one}
+use mathlib.Core.Bool.{Bool, true, false}
+use mathlib.Core.List.{List, [], _∷_, _++_, map}
+use Prim.Native.Nat.{ℕ, _+_, _*_, _≤_}
 use native.Mathlib.Omega.{arith}
-use lib.Dec.{eqb}
-use lib.ListN.{length, take, drop, getD, length-append, length-map, drop-of-length-le}
-use lib.Seq.{length-take-le, take-all, drop-length, take-suc, drop-cons}
+use lib.ListN.{length, getD, length-append, length-map}
 use mir.Val.{boolByte}
-use Rattle.bpg_format.specs.Limits.{maxEntries}
 use Rattle.bpg_codec.specs.Bits.{bit}
 use Rattle.bpg_codec.specs.Buffer.{written}
 use Rattle.bpg_codec.proofs.Lists.{by-length}
 use Rattle.bpg_codec.proofs.Buffer.{length-splice, stored, written-written}
 use Rattle.bpg_format.specs.declared.record.Entry.{Entry}
 use Rattle.bpg_format.specs.declared.record.Header.{Header}
-use Rattle.bpg_format.specs.declared.record.Record.{Record}
-use Rattle.bpg_export_list.specs.Numbers.{fixedLength, listLength, headNumbers, rangeNumbers, entryNumbers, entriesNumbers}
-use Rattle.bpg_export_list.specs.Numbers.{animationNumbers, headerNumbers, headersNumbers, fixedNumbers}
+use Rattle.bpg_export_list.specs.Numbers.{entriesNumbers}
+use Rattle.bpg_export_list.specs.Numbers.{headerNumbers}
 
 -- a flag as a number
 pub flag-number : (t : Bool) → boolByte t ≡ bit t

@@ -5,14 +5,13 @@ use mathlib.Core.List.{List, [], _∷_}
 use Prim.Native.Nat.{ℕ, _+_, _-_, _*_, _%_, _^_, _≤_, _<_}
 use native.Mathlib.Omega.{arith}
 use lib.Dec.{ltb, eqb}
-use lib.ListN.{length, take, drop}
+use lib.ListN.{take, drop}
 use Rattle.bpg_codec.specs.Select.{select}
 use Rattle.bpg_codec.specs.Outcome.{Outcome, ok, Decoded, decoded}
 use Rattle.bpg_codec.proofs.Select.{is-true}
 use Rattle.bpg_codec.proofs.Outcome.{error-not-ok, ok-injective, unbind, unguard, guard-true}
 use Rattle.bpg_ue7.specs.Ue7.{ue7Rest, ue7Decode, notZero}
 use Rattle.bpg_ue7.proofs.Advances.{ue7-advances}
-use Rattle.bpg_format.specs.Content.{Flags}
 use Rattle.bpg_format.specs.Read.{readFlags, Head, readHead}
 use Rattle.bpg_read_head.specs.Heads.{readExtensionLength}
 use Rattle.bpg_read_head.proofs.HeadLaws.{optional-advanced}

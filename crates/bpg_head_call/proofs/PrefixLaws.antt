@@ -5,7 +5,7 @@ use mathlib.Core.List.{List, [], _∷_}
 use Prim.Native.Nat.{ℕ, zero, suc, _+_, _-_, _*_, _%_, _^_, _≤_, _<_}
 use native.Mathlib.Omega.{arith}
 use lib.Dec.{ltb, leb, eqb}
-use lib.ListN.{length, take, drop, getD, length-take}
+use lib.ListN.{length, take, drop, length-take}
 use lib.Seq.{take-nil, take-take, getD-take}
 use borrow.Author.Tests.{le-leb, lt-leb, ltb-true, ltb-false, eqb-false, not-true}
 use Rattle.bpg_codec.specs.Select.{select}

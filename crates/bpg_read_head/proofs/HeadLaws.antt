@@ -2,7 +2,7 @@
 use mathlib.Core.Path.{_≡_, sym, ap, subst}
 use mathlib.Core.Bool.{Bool, true, false}
 use mathlib.Core.List.{List}
-use Prim.Native.Nat.{ℕ, _-_, _/_, _%_, _^_, _≤_, _<_}
+use Prim.Native.Nat.{ℕ, _-_, _/_, _%_, _≤_}
 use native.Mathlib.Omega.{arith}
 use lib.Dec.{leb, leb→le}
 use lib.ListN.{length, take, drop, getD, length-drop}
@@ -13,7 +13,7 @@ use Rattle.bpg_codec.proofs.Select.{and-left}
 use Rattle.bpg_codec.proofs.Outcome.{ok-injective, unbind, unguard}
 use Rattle.bpg_codec.proofs.Positions.{Advanced, advanced-then}
 use Rattle.bpg_ue7.specs.Ue7.{ue7Decode, notZero}
-use Rattle.bpg_ue7.proofs.Advances.{ue7-advances, ue7-limit}
+use Rattle.bpg_ue7.proofs.Advances.{ue7-advances}
 use Rattle.bpg_format.specs.Content.{Flags}
 use Rattle.bpg_format.specs.Syntax.{magic}
 use Rattle.bpg_format.specs.Tests.{colorSpaceAllowed}
@@ -86,34 +86,4 @@ head-facts l h e =
     record {
       end-inside = omega (arith, six-bytes l f e1, advanced-then a b .inside, length-drop 6 l);
       depth-limit = flag-bounds l f e1 .1;
-    }
-
--- ---- each field fits
-
-pub record HeadBounds (h : Head) : Type 0 where
-  pub format : h .flags .pixelFormat ≤ 5
-  pub depth : h .flags .bitDepthMinus8 ≤ 6
-  pub space : h .flags .colorSpace ≤ 4
-  pub width : h .width < 2 ^ 32
-  pub height : h .height < 2 ^ 32
-  pub data-length : h .dataLength < 2 ^ 32
-  pub extension-length : h .extensionLength < 2 ^ 32
-
-optional-limit : (t : Bool) (p : ℕ) (l : List ℕ) (x : Decoded ℕ ℕ) → readExtensionLength t p l ≡ ok x → x .value < 2 ^ 32
-unfolding select
-optional-limit true p l x e = ue7-limit 32 p p l x e
-optional-limit false p l x e = subst (λ (y : Decoded ℕ ℕ). y .value < 2 ^ 32) (ok-injective e) (omega arith)
-
-pub head-bounds : (l : List ℕ) (h : Head) → readHead l ≡ ok h → HeadBounds h
-head-bounds l h e =
-    take-apart HeadBounds l h e λ f w v s x e1 e2 e3 e4 e5.
-    let b = flag-bounds l f e1 in
-    record {
-      format = b .0;
-      depth = b .1;
-      space = b .2;
-      width = ue7-limit 32 6 6 (drop 6 l) w e2;
-      height = ue7-limit 32 (w .next) (w .next) (w .rest) v e3;
-      data-length = ue7-limit 32 (v .next) (v .next) (v .rest) s e4;
-      extension-length = optional-limit (f .extensionPresent) (s .next) (s .rest) x e5;
     }

@@ -1,7 +1,7 @@
 -- The list of an accepted file: its fixed numbers, and its entries, read again and written one by one.
 use mathlib.Core.Path.{_≡_, refl, sym, ap, ap₂, _∙_, subst}
 use mathlib.Core.List.{List, [], _∷_, _++_}
-use Prim.Native.Nat.{ℕ, _+_, _-_, _*_, _≤_, _<_}
+use Prim.Native.Nat.{ℕ, _+_, _-_, _≤_, _<_}
 use native.Mathlib.Omega.{arith}
 use lib.ListN.{length, take, replicate}
 use lib.Seq.{take-append-seam}
@@ -11,7 +11,6 @@ use Rattle.bpg_codec.proofs.Buffer.{stored-none}
 use Rattle.bpg_format.specs.Limits.{maxEntries}
 use Rattle.bpg_format.specs.declared.record.Entry.{Entry}
 use Rattle.bpg_format.specs.declared.answer.Reading.{Reading}
-use Rattle.bpg_format.specs.declared.answer.Written.{Written}
 use Rattle.bpg_format.specs.Zero.{zeroEntry, refusedWritten}
 use Rattle.bpg_format.specs.Content.{Content}
 use Rattle.bpg_format.specs.Read.{readContent}
@@ -25,7 +24,7 @@ use Rattle.bpg_read_survey.proofs.Walking.{Walking, passed, passed-next, walks,
 use Rattle.bpg_reader.specs.Assembled.{assembledReading}
 use Rattle.bpg_reader.proofs.AssembledLaws.{assembled-file}
 use Rattle.bpg_export_list.specs.Numbers.{fixedLength, listLength, fixedNumbers, entryNumbers, entriesNumbers}
-use Rattle.bpg_export_list.proofs.NumberLaws.{Filled, filled-next, entries-append, entries-length as numbers-length, written-length}
+use Rattle.bpg_export_list.proofs.NumberLaws.{Filled, filled-next, entries-append, written-length}
 use Rattle.bpg_export_list.proofs.WriteLaws.{Answers, list-short, list-written}
 use Rattle.bpg_read_list.specs.Surveyed.{surveyNumbers}
 

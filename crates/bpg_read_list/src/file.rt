@@ -1,5 +1,6 @@
-// Reading a file into the list of its record. The entries are read a second time and written where they stay: there is no array of them between. Start and
-// tag offset come from the positions: of the entry itself, which is answered through memory, adjacent fields would be loaded at once, and that waits for both.
+// Reading a file into the list of its record. The entries are read a second time and written where they stay: there is no array of them between. A payload's
+// start and the tag offset are taken from the positions, not from the entry: that is answered through memory, where the compiler would load two adjacent
+// fields at once and wait for both stores.
 use crate::fixed::put_fixed;
 use bpg_export_list::FIXED;
 use bpg_export_list::put;
@@ -12,11 +13,9 @@ ghost use mathlib.Core.List.{[], _∷_};
 ghost use Prim.Native.Nat.{_≤_};
 ghost use lib.ListN.{length as count};
 ghost use Rattle.bpg_codec.specs.Buffer.{written};
-ghost use Rattle.bpg_codec.specs.Select.{select};
 ghost use Rattle.bpg_format.specs.Limits.{maxEntries};
-ghost use Rattle.bpg_format.specs.Records.{readFile};
 ghost use Rattle.bpg_format.specs.Write.{writtenAnswer, writtenBuffer};
-ghost use Rattle.bpg_reader.specs.Calls.{bodyList};
+ghost use Rattle.bpg_reader.specs.Calls.{eitherReading};
 ghost use Rattle.bpg_export_list.specs.Numbers.{listLength};
 ghost use Rattle.bpg_export_list.specs.Calls.{listed};
 
@@ -32,8 +31,8 @@ fn put_entry(out: &mut [u64], k: usize, tag: u32, start: usize, length: u32, tag
 // The numbers of a file's reading, or of reading on from the list of its head, from the start of `numbers`: those in use, and what stands after them is
 // left. A refusal leaves the whole list.
 pub fn read(file: &[u8], given: &[u64], is_given: bool, numbers: &mut [u64]) -> Written
-    ensures { λ r. ⌜ r ≡ writtenAnswer (listed (count (now (numbers .entry))) (select «is_given» (bodyList (now (given .entry)) (now (file .entry))) (readFile (now (file .entry))))) ⌝ }
-    ensures { λ _. ⌜ now (numbers .exit) ≡ writtenBuffer (listed (count (now (numbers .entry))) (select «is_given» (bodyList (now (given .entry)) (now (file .entry))) (readFile (now (file .entry))))) (now (numbers .entry)) ⌝ }
+    ensures { λ r. ⌜ r ≡ writtenAnswer (listed (count (now (numbers .entry))) (eitherReading «is_given» (now (given .entry)) (now (file .entry)))) ⌝ }
+    ensures { λ _. ⌜ now (numbers .exit) ≡ writtenBuffer (listed (count (now (numbers .entry))) (eitherReading «is_given» (now (given .entry)) (now (file .entry)))) (now (numbers .entry)) ⌝ }
 {
     let found = survey(file, given, is_given);
     let head = found.head;

@@ -9,12 +9,11 @@ use lib.Dec.{leb, leb→le}
 use lib.ListN.{length, take, drop, length-drop}
 use lib.Seq.{take-length}
 use native.Mathlib.Decide.{ℕ-discrete}
-use borrow.Author.Tests.{le-leb, eq-eqb, ne-eqb}
+use borrow.Author.Tests.{eq-eqb, ne-eqb}
 use Rattle.bpg_codec.specs.Outcome.{ok, error, _>>=_}
 use Rattle.bpg_codec.proofs.Select.{select-true, select-false}
 use Rattle.bpg_codec.proofs.Answers.{refused-error, accepted-value}
 use Rattle.bpg_codec.proofs.Outcome.{unguard}
-use Rattle.bpg_format.specs.Limits.{maxFile}
 use Rattle.bpg_format.specs.Content.{Extension}
 use Rattle.bpg_format.specs.Rules.{hasAnimation}
 use Rattle.bpg_format.specs.Tests.{countsToEnd, dataAllowed}
@@ -28,6 +27,7 @@ use Rattle.bpg_read_headers.specs.BothHeaders.{headersAnswer}
 use Rattle.bpg_read_survey.specs.Bodies.{HeadRead, headersStart, bodyContent, stop, afterHeaders}
 use Rattle.bpg_read_survey.specs.Surveys.{refusedSurvey, surveyOf}
 use Rattle.bpg_read_survey.specs.declared.rest.Stop.{Stop}
+use Rattle.bpg_read_survey.proofs.ContentSteps.{content-body}
 use Rattle.bpg_read_survey.proofs.BodyChain.{headersOf, fromData, fromHeaders, afterBlock, headers-inside, body-chain}
 
 -- ---- the block
@@ -44,11 +44,10 @@ module _ {file : List ℕ} {h : Head} (k : HeadRead file h) where
   abbrev after : List ℕ
   after = drop (h .end) file
 
-  pub content-is : readContent file ≡ readBody h after
-  unfolding readContent
-  content-is = rw (le-leb (length file) maxFile (k .short), k .read)
+  content-is : readContent file ≡ readBody h after
+  content-is = content-body file (k .short) h (k .read)
 
-  pub not-zero : (s o : ℕ) → readBody h after ≡ error s o → s ≢ 0
+  not-zero : (s o : ℕ) → readBody h after ≡ error s o → s ≢ 0
   not-zero s o e z = subst ReadingStatus z (content-refuses file s o (content-is ∙ e))
 
   chain : readBody h after ≡ (readBlock h after >>= afterBlock file h)

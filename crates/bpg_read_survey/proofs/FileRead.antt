@@ -21,13 +21,13 @@ use Rattle.bpg_format.specs.Read.{Head, readHead, readBlock, readAlphaHeader, r
 use Rattle.bpg_format.specs.Records.{blockStart, dataStart, answerOf}
 use Rattle.bpg_format.proofs.RangeLaws.{data-end}
 use Rattle.bpg_format.proofs.ReadingLaws.{read-is}
-use Rattle.bpg_read_head.specs.declared.head.Head.{Head as HeadReading}
+use Rattle.bpg_read_head.specs.declared.head.Head.{Head as PlacedHead}
 use Rattle.bpg_read_head.specs.Heads.{headAnswer}
 use Rattle.bpg_read_entries.specs.declared.block.Block.{Block}
 use Rattle.bpg_read_headers.specs.declared.headers.HeadersReading.{HeadersReading}
 use Rattle.bpg_read_headers.specs.BothHeaders.{headersAnswer}
 use Rattle.bpg_head_call.specs.declared.call.CodedHead.{CodedHead}
-use Rattle.bpg_read_survey.specs.declared.rest.Survey.{Survey}
+use Rattle.bpg_read_survey.specs.declared.rest.RestSurvey.{RestSurvey}
 use Rattle.bpg_read_survey.specs.declared.given.FileSurvey.{FileSurvey}
 use Rattle.bpg_read_survey.specs.Given.{readGiven}
 use Rattle.bpg_read_survey.specs.Bodies.{headFields, bodyContent}
@@ -38,7 +38,7 @@ use Rattle.bpg_read_survey.proofs.GivenLaws.{given-accepted, given-not-
 
 -- ---- the answer for a body that was read
 
-abbrev pub found : Block → HeadersReading → Survey
+abbrev pub found : Block → HeadersReading → RestSurvey
 found b x = record { status = 0; offset = bytePos 0; block = b; both = x }
 
 pub body-survey : {file : List ℕ} {h : Head} {b : Block} {x : HeadersReading} → BodyRead file h b x → found b x ≡ surveyOf (length file) (readBody h (drop (h .end) file))
@@ -62,7 +62,7 @@ body-fields h l c e =
     subst (λ (d : Content). d ≡ bodyContent h (d .extensions) (d .alphaHeader) (d .colorHeader) (d .hevcData)) (ok-injective e6) refl
 
 -- all that is known of an accepted file from its survey
-pub record FileRead (file : List ℕ) (head : HeadReading) (s : Survey) : Type 0 where
+pub record FileRead (file : List ℕ) (head : PlacedHead) (s : RestSurvey) : Type 0 where
   pub content : Content
   pub made : content ≡ bodyContent (headFields head) (content .extensions) (content .alphaHeader) (content .colorHeader) (content .hevcData)
   pub rules : Rules content
@@ -71,20 +71,20 @@ pub record FileRead (file : List ℕ) (head : HeadReading) (s : Survey) : Type 0
   pub heads : headFields head ≡ headOf content
   pub survey : s ≡ surveyOf (length file) (ok content)
 
-module _ (isGiven : CodedHead → Bool) (file : List ℕ) (s : FileSurvey) (e : s ≡ fileSurvey file (readGiven isGiven file)) where
-  abbrev rest-is : s .rest ≡ surveyOf (length file) (readGiven isGiven file)
+module _ (isOwn : CodedHead → Bool) (file : List ℕ) (s : FileSurvey) (e : s ≡ fileSurvey file (readGiven isOwn file)) where
+  abbrev rest-is : s .rest ≡ surveyOf (length file) (readGiven isOwn file)
   rest-is = ap (λ (x : FileSurvey). x .rest) e
 
-  pub survey-refused : s .rest .status ≢ 0 → refusedReading (s .rest .status) (s .rest .offset .0) ≡ answerOf (readGiven isGiven file)
+  pub survey-refused : s .rest .status ≢ 0 → refusedReading (s .rest .status) (s .rest .offset .0) ≡ answerOf (readGiven isOwn file)
   survey-refused n =
-      refused-error (surveyOf (length file)) (λ r. r .status) (λ _. refl) (λ _ _. refl) (readGiven isGiven file) (s .rest) rest-is n λ t o w.
-      ap (λ (y : Survey). refusedReading (y .status) (y .offset .0)) (rest-is ∙ ap (surveyOf (length file)) w) ∙ ap answerOf (sym w)
+      refused-error (surveyOf (length file)) (λ r. r .status) (λ _. refl) (λ _ _. refl) (readGiven isOwn file) (s .rest) rest-is n λ t o w.
+      ap (λ (y : RestSurvey). refusedReading (y .status) (y .offset .0)) (rest-is ∙ ap (surveyOf (length file)) w) ∙ ap answerOf (sym w)
 
   module _ (bytes : All Byte file) (z : s .rest .status ≡ 0) where
-    pub survey-read : FileRead file (s .head) (s .rest) × (readGiven isGiven file ≡ readContent file)
+    pub survey-read : FileRead file (s .head) (s .rest) × (readGiven isOwn file ≡ readContent file)
     survey-read =
-        accepted-value (surveyOf (length file)) (λ r. r .status) (λ _. refl) (λ _ _. refl) (readGiven isGiven file) (s .rest) rest-is z (given-not-zero isGiven file) λ c w.
-        given-accepted isGiven file c w λ h read-head read-body read.
+        accepted-value (surveyOf (length file)) (λ r. r .status) (λ _. refl) (λ _ _. refl) (readGiven isOwn file) (s .rest) rest-is z (given-not-zero isOwn file) λ c w.
+        given-accepted isOwn file c w λ h read-head read-body read.
         let r = read-is file bytes c read in
         let head : headFields (s .head) ≡ h = ap (λ (x : FileSurvey). headFields (x .head)) e ∙ ap (λ (o : Outcome Head). headFields (headAnswer o)) read-head in (
           record {
@@ -99,7 +99,7 @@ module _ (isGiven : CodedHead → Bool) (file : List ℕ) (s : FileSurvey) (e : 
           w ∙ sym read,
         )
 
-module _ {file : List ℕ} {head : HeadReading} {s : Survey} (k : FileRead file head s) where
+module _ {file : List ℕ} {head : PlacedHead} {s : RestSurvey} (k : FileRead file head s) where
   abbrev c : Content
   c = k .content
 
@@ -107,7 +107,7 @@ module _ {file : List ℕ} {head : HeadReading} {s : Survey} (k : FileRead file 
   starts = ap (λ (h : Head). h .end) (sym (k .heads))
 
   pub counted : s .block .«entry_count» ≡ length (c .extensions)
-  counted = ap (λ (y : Survey). y .block .«entry_count») (k .survey)
+  counted = ap (λ (y : RestSurvey). y .block .«entry_count») (k .survey)
 
   pub file-length : length file ≡ dataStart c + length (c .hevcData)
   file-length = ap length (k .is) ∙ data-end c (k .rules)
@@ -116,8 +116,8 @@ module _ {file : List ℕ} {head : HeadReading} {s : Survey} (k : FileRead file 
   short = omega (arith, ap length (k .is), k .rules .size)
 
   pub data-inside : s .both .next .0 ≤ length file
-  data-inside = subst (λ (y : Survey). y .both .next .0 ≤ length file) (sym (k .survey)) (omega arith)
+  data-inside = subst (λ (y : RestSurvey). y .both .next .0 ≤ length file) (sym (k .survey)) (omega arith)
 
   pub min-cb-small : s .both .color .«log2_min_luma_coding_block_size_minus3» ≤ 3
   min-cb-small =
-      subst (λ (y : Survey). y .both .color .«log2_min_luma_coding_block_size_minus3» ≤ 3) (sym (k .survey)) (omega (arith, k .rules .color-header .hevc .ctb-most))
+      subst (λ (y : RestSurvey). y .both .color .«log2_min_luma_coding_block_size_minus3» ≤ 3) (sym (k .survey)) (omega (arith, k .rules .color-header .hevc .ctb-most))

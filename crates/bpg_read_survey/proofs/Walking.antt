@@ -16,12 +16,12 @@ use Rattle.bpg_format.specs.Syntax.{extensionBytes, blockBytes, headersAndData}
 use Rattle.bpg_format.specs.Read.{Head, readContent}
 use Rattle.bpg_format.specs.Records.{entriesAt}
 use Rattle.bpg_format.proofs.RecordLaws.{beforeEntries, file-entries, before-length, entries-length}
-use Rattle.bpg_read_head.specs.declared.head.Head.{Head as HeadReading}
+use Rattle.bpg_read_head.specs.declared.head.Head.{Head as PlacedHead}
 use Rattle.bpg_read_entries.specs.declared.entry.EntryReading.{EntryReading}
 use Rattle.bpg_read_entries.specs.Entries.{foundEntry, entryHeadAnswer, entryIn}
 use Rattle.bpg_read_entries.proofs.LastEntry.{entries-snoc, bytes-snoc}
 use Rattle.bpg_read_entries.proofs.Ahead.{Ahead, tags-fit, small, entry-ahead, past, more-ahead}
-use Rattle.bpg_read_survey.specs.declared.rest.Survey.{Survey}
+use Rattle.bpg_read_survey.specs.declared.rest.RestSurvey.{RestSurvey}
 use Rattle.bpg_read_survey.proofs.FileRead.{FileRead, starts, counted, short}
 
 -- k of the entries, which begin at p, were passed; the next begins at `next`, and all lie before `end`
@@ -38,7 +38,7 @@ pub record Walking (file : List ℕ) (count end p next k : ℕ) : Type 0 where
 kept : (before block rest : List ℕ) → take (length before + length block) (before ++ (block ++ rest)) ≡ before ++ block
 kept before block rest = take-append-add before (block ++ rest) (length block) ∙ ap (λ (l : List ℕ). before ++ l) (take-append-seam block rest)
 
-module _ {file : List ℕ} {head : HeadReading} {s : Survey} (f : FileRead file head s) where
+module _ {file : List ℕ} {head : PlacedHead} {s : RestSurvey} (f : FileRead file head s) where
   abbrev c : Content
   c = f .content
 

@@ -15,14 +15,14 @@ use Rattle.bpg_format.specs.declared.record.Header.{Header}
 use Rattle.bpg_format.specs.Content.{Extension, Content}
 use Rattle.bpg_format.specs.Tests.{dataAllowed}
 use Rattle.bpg_format.specs.Read.{Head, readHead, animationOf}
-use Rattle.bpg_read_head.specs.declared.head.Head.{Head as HeadReading}
+use Rattle.bpg_read_head.specs.declared.head.Head.{Head as PlacedHead}
 use Rattle.bpg_head_call.specs.declared.call.CodedHead.{CodedHead}
 use Rattle.bpg_read_head.specs.FlagBytes.{flagFields}
 use Rattle.bpg_head_call.specs.Calls.{fieldsOf, isHead}
 use Rattle.bpg_read_survey.specs.declared.rest.Stop.{Stop}
 
 -- what a head that was read says
-abbrev pub headFields : HeadReading → Head
+abbrev pub headFields : PlacedHead → Head
 headFields h =
     record {
       flags = flagFields (h .flags);
@@ -73,7 +73,7 @@ abbrev pub asked : (isGiven : Bool) (given : List ℕ) → CodedHead → Bool
 asked g l h = not g || isHead l h
 
 -- what is refused before the body of a file of `len` bytes, by its head: 1, the head's own refusal, 21 at 0 for one that is not asked for
-abbrev pub beforeBody : (len : ℕ) → HeadReading → (CodedHead → Bool) → Stop
+abbrev pub beforeBody : (len : ℕ) → PlacedHead → (CodedHead → Bool) → Stop
 beforeBody len h isAsked =
     select (ltb maxFile len) (stop 1 0)
     (select (eqb (h .status) 0) (select (isAsked (fieldsOf h)) (stop 0 0) (stop 21 0)) (stop (h .status) (h .offset .0)))

@@ -13,12 +13,12 @@ use Rattle.bpg_format.specs.Read.{readHead, readBody, readingStatuses}
 use Rattle.bpg_head_call.specs.declared.call.CodedHead.{CodedHead}
 use Rattle.bpg_head_call.specs.Calls.{codedHead}
 
--- "the body gives 1, the head's, 21 at 0 for a head that is not this file's, then the rest"; `isGiven`: the head is the one that was given
-unfoldable pub readGiven : (isGiven : CodedHead → Bool) → List ℕ → Outcome Content
-readGiven isGiven l =
+-- "the body gives 1, the head's, 21 at 0 for a head that is not this file's, then the rest"; `isOwn`: whether the file's head is the one that was given
+unfoldable pub readGiven : (isOwn : CodedHead → Bool) → List ℕ → Outcome Content
+readGiven isOwn l =
     guard (leb (length l) maxFile) 1 0 >>= λ _.
     readHead l >>= λ h.
-    guard (isGiven (codedHead h)) 21 0 >>= λ _.
+    guard (isOwn (codedHead h)) 21 0 >>= λ _.
     readBody h (drop (h .end) l)
 
 -- reading's numbers and 21: no other is given

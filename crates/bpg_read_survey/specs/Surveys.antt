@@ -9,14 +9,14 @@ use Rattle.bpg_format.specs.Read.{readHead}
 use Rattle.bpg_read_head.specs.Heads.{headAnswer}
 use Rattle.bpg_read_entries.specs.Blocks.{refusedBlock, blockAnswer}
 use Rattle.bpg_read_headers.specs.BothHeaders.{refusedHeaders, headersAnswer}
-use Rattle.bpg_read_survey.specs.declared.rest.Survey.{Survey}
+use Rattle.bpg_read_survey.specs.declared.rest.RestSurvey.{RestSurvey}
 use Rattle.bpg_read_survey.specs.declared.given.FileSurvey.{FileSurvey}
 
-abbrev pub refusedSurvey : (status offset : ℕ) → Survey
+abbrev pub refusedSurvey : (status offset : ℕ) → RestSurvey
 refusedSurvey s o = record { status = s; offset = bytePos o; block = refusedBlock 0 0; both = refusedHeaders 0 0 }
 
 -- what a body says, of a file of `len` bytes; the data is its end
-abbrev pub surveyOf : (len : ℕ) → Outcome Content → Survey
+abbrev pub surveyOf : (len : ℕ) → Outcome Content → RestSurvey
 surveyOf len (ok c) =
     record {
       status = 0;

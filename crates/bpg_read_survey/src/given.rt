@@ -1,7 +1,7 @@
-// Surveying a file, all of it or on from a head that the caller has (request 9/13): its limit, its head, the rest.
+// Surveying a file, all of it or on from a head that the caller has (request 9/13): its head, what is refused before its body, the rest.
 use crate::rest;
+use crate::rest::RestSurvey;
 use crate::rest::Stop;
-use crate::rest::Survey;
 use bpg_bytes::BytePos;
 use bpg_format::MAX_FILE;
 use bpg_head_call::call::coded;
@@ -55,14 +55,15 @@ fn before_body(len: usize, head: Head, given: &[u64], is_given: bool) -> Stop
     }
 }
 
-// The head of a file, refused or not, and what the rest of it says; every refusal of the file is the rest's.
+// What the head call reads, whether or not the file is refused, and what follows it. Whether the file is refused, `rest.status` alone says: `head.status` is
+// the head's own.
 pub struct FileSurvey {
     pub head: Head,
-    pub rest: Survey,
+    pub rest: RestSurvey,
 }
 
-// What is known of a file once it is read, but for its entries: for callers that store these in a record, in a list, or not at all. With a head that
-// was given, `body`; there is no other way to read a file.
+// What is known of a file once it is read, but for its entries: for callers that store these in a record, in a list, or not at all. Given a head, it reads on
+// as `body` does. Every reading of a file goes through here.
 pub fn survey(file: &[u8], given: &[u64], is_given: bool) -> FileSurvey
     ensures { λ r. ⌜ r ≡ fileSurvey (now (file .entry)) (readGiven (asked «is_given» (now (given .entry))) (now (file .entry))) ⌝ }
 {

@@ -4,4 +4,4 @@ mod rest;
 
 pub use given::FileSurvey;
 pub use given::survey;
-pub use rest::Survey;
+pub use rest::RestSurvey;

@@ -76,19 +76,19 @@ fn after_headers(file: &[u8], status: u8, offset: BytePos, next: BytePos) -> Sto
 }
 
 // Status 0, and what the parts of a body were read as but for the entries, which are stored last; or a refusal and zeros.
-pub struct Survey {
+pub struct RestSurvey {
     pub status: u8,
     pub offset: BytePos,
     pub block: Block,
     pub both: HeadersReading,
 }
 
-pub(crate) fn refused(status: u8, offset: BytePos) -> Survey
+pub(crate) fn refused(status: u8, offset: BytePos) -> RestSurvey
     ensures { λ r. ⌜ r ≡ refusedSurvey status (offset .0) ⌝ }
 {
     let block = block::none();
     let both = headers::refused(0, BytePos(0));
-    Survey {
+    RestSurvey {
         status,
         offset,
         block,
@@ -97,7 +97,7 @@ pub(crate) fn refused(status: u8, offset: BytePos) -> Survey
 }
 
 // The body of a file whose head this is.
-pub(crate) fn read(file: &[u8], head: Head) -> Survey
+pub(crate) fn read(file: &[u8], head: Head) -> RestSurvey
     requires { ⌜ HeadRead (now file) (headFields head) ⌝ }
     ensures { λ r. ⌜ r ≡ surveyOf (count (now (file .entry))) (readBody (headFields head) (drop (head .end .0) (now (file .entry)))) ⌝ }
 {
@@ -123,7 +123,7 @@ pub(crate) fn read(file: &[u8], head: Head) -> Survey
     if stop.status != 0 {
         return refused(stop.status, stop.offset);
     }
-    Survey {
+    RestSurvey {
         status: 0,
         offset: BytePos(0),
         block,

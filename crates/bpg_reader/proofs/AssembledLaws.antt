@@ -10,16 +10,16 @@ use Rattle.bpg_format.specs.declared.record.Header.{Header}
 use Rattle.bpg_format.specs.Zero.{zeroEntry}
 use Rattle.bpg_format.specs.Content.{Extension, Content}
 use Rattle.bpg_format.specs.Records.{entriesAt, padEntries, blockStart, dataStart, recordOf, answerOf, readFile}
-use Rattle.bpg_read_head.specs.declared.head.Head.{Head as HeadReading}
+use Rattle.bpg_read_head.specs.declared.head.Head.{Head as PlacedHead}
 use Rattle.bpg_read_entries.specs.Blocks.{blockAnswer}
 use Rattle.bpg_read_headers.specs.BothHeaders.{headersAnswer}
-use Rattle.bpg_read_survey.specs.declared.rest.Survey.{Survey}
+use Rattle.bpg_read_survey.specs.declared.rest.RestSurvey.{RestSurvey}
 use Rattle.bpg_read_survey.specs.Bodies.{headFields, bodyContent}
 use Rattle.bpg_read_survey.proofs.FileRead.{FileRead, starts, counted, file-length}
 use Rattle.bpg_reader.specs.Assembled.{assembledReading}
 
 -- of a content that has what the head says
-module _ (n : ℕ) (head : HeadReading) (es : List Extension) (alpha color : Header) (bytes : List ℕ) where
+module _ (n : ℕ) (head : PlacedHead) (es : List Extension) (alpha color : Header) (bytes : List ℕ) where
   abbrev content : Content
   content = bodyContent (headFields head) es alpha color bytes
 
@@ -28,7 +28,7 @@ module _ (n : ℕ) (head : HeadReading) (es : List Extension) (alpha color : Hea
   unfolding recordOf
   assembled p q r = rw (q, r, p)
 
-module _ {file : List ℕ} {head : HeadReading} {s : Survey} (k : FileRead file head s) where
+module _ {file : List ℕ} {head : PlacedHead} {s : RestSurvey} (k : FileRead file head s) where
   abbrev c : Content
   c = k .content
 
@@ -37,7 +37,7 @@ module _ {file : List ℕ} {head : HeadReading} {s : Survey} (k : FileRead file 
   assembled-file =
       let es = padEntries (entriesAt (head .end .0) (c .extensions)) in
       let d = ap dataStart (sym (k .made)) in
-      ap (λ (y : Survey). assembledReading (length file) head (y .block) (y .both) es) (k .survey)
+      ap (λ (y : RestSurvey). assembledReading (length file) head (y .block) (y .both) es) (k .survey)
       ∙ assembled (length file) head (c .extensions) (c .alphaHeader) (c .colorHeader) (c .hevcData) (ap blockStart (sym (k .made)) ∙ starts k)
       (omega (arith, file-length k, d)) (omega (arith, file-length k, d))
       ∙ ap (λ (x : Content). answerOf (ok x)) (sym (k .made)) ∙ ap answerOf (sym (k .read))

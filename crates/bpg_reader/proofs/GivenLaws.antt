@@ -1,5 +1,5 @@
 -- What reading answers, with a head that was given and without.
-use mathlib.Core.Path.{_≡_, refl, ap, _∙_}
+use mathlib.Core.Path.{_≡_, refl, sym, ap, _∙_}
 use mathlib.Core.Bool.{Bool, true, false}
 use mathlib.Core.List.{List}
 use Prim.Native.Nat.{ℕ}
@@ -17,20 +17,25 @@ use Rattle.bpg_read_survey.specs.Given.{readGiven}
 use Rattle.bpg_read_survey.specs.declared.given.FileSurvey.{FileSurvey}
 use Rattle.bpg_read_survey.specs.Bodies.{asked}
 use Rattle.bpg_read_survey.specs.Surveys.{surveyOf, fileSurvey}
-use Rattle.bpg_reader.specs.Calls.{bodyList, bodyFile, verdictOf}
+use Rattle.bpg_reader.specs.Calls.{bodyList, bodyFile, eitherReading, verdictOf}
 
 -- without a head that was given, it is reading
 given-any : (file : List ℕ) → readGiven (λ _. true) file ≡ readContent file
 unfolding readGiven readContent
 given-any file = refl
 
-pub either : (given : List ℕ) (isGiven : Bool) (file : List ℕ) → answerOf (readGiven (asked isGiven given) file) ≡ select isGiven (bodyList given file) (readFile file)
+pub either : (given : List ℕ) (isGiven : Bool) (file : List ℕ) → answerOf (readGiven (asked isGiven given) file) ≡ eitherReading isGiven given file
 unfolding select bodyList readFile
 either given true file = refl
 either given false file = ap answerOf (given-any file)
 
+-- a file that was read on from the head that it has is read
+pub answered : (given : List ℕ) (isGiven : Bool) (file : List ℕ) → readGiven (asked isGiven given) file ≡ readContent file → readFile file ≡ eitherReading isGiven given file
+unfolding readFile
+answered given isGiven file e = ap answerOf (sym e) ∙ either given isGiven file
+
 -- and with one, its numbers are the list
-pub with-head : (h : CodedHead) (l file : List ℕ) (r : Reading) → r ≡ select true (bodyList l file) (readFile file) → l ≡ headNumbers h → r ≡ bodyFile h file
+pub with-head : (h : CodedHead) (l file : List ℕ) (r : Reading) → r ≡ eitherReading true l file → l ≡ headNumbers h → r ≡ bodyFile h file
 with-head h l file r e k = e ∙ select-true _ _ refl ∙ ap (λ (m : List ℕ). bodyList m file) k
 
 -- of the survey the status and the offset alone

@@ -1,27 +1,24 @@
 -- The requirements of reading in two calls are met.
 use mathlib.Core.Path.{_≡_, refl, sym, ap, _∙_, subst}
-use mathlib.Core.Bool.{Bool}
 use mathlib.Core.Logic.{_≢_}
 use mathlib.Core.List.{List}
 use Prim.Native.Nat.{ℕ, _≤_, _<_}
 use lib.Dec.{leb, eqb}
-use lib.ListN.{length, drop}
+use lib.ListN.{length}
 use borrow.Author.Tests.{le-leb, lt-leb, eq-eqb, ne-eqb}
 use native.Mathlib.Decide.{ℕ-discrete}
 use Rattle.bpg_codec.specs.Select.{select}
 use Rattle.bpg_codec.specs.Outcome.{Outcome, ok, error}
-use Rattle.bpg_codec.proofs.Lists.{either-way, member-later}
-use Rattle.bpg_codec.proofs.Refusals.{refuses-error}
+use Rattle.bpg_codec.proofs.Lists.{either-way}
 use Rattle.bpg_codec.proofs.Select.{select-true, select-false}
 use Rattle.bpg_format.specs.Limits.{maxFile}
 use Rattle.bpg_format.specs.Zero.{refusedReading}
 use Rattle.bpg_format.specs.Content.{Content}
 use Rattle.bpg_format.specs.Syntax.{fileOf}
 use Rattle.bpg_format.specs.Rules.{Rules}
-use Rattle.bpg_format.specs.Read.{Head, readHead, readBody, readContent, readingStatuses, ReadingStatus}
+use Rattle.bpg_format.specs.Read.{Head, readHead, readContent}
 use Rattle.bpg_format.specs.Records.{answerOf, readFile}
 use Rattle.bpg_format.proofs.RuleLaws.{by-tag}
-use Rattle.bpg_format.proofs.ReadingRefusals.{content-refuses}
 use Rattle.bpg_head_call.specs.declared.call.CodedHead.{CodedHead}
 use Rattle.bpg_head_call.specs.Calls.{codedHead, headReading, headFile, HeadStatus, headNumbers, isHead}
 use Rattle.bpg_head_call.proofs.CallLaws.{own-head as own-numbers, same-means}
@@ -31,7 +28,8 @@ use Rattle.bpg_reader.specs.Calls.{bodyList, bodyFile}
 use Rattle.bpg_reader.specs.Requirements.{headOfContent, HeadFirst, BodyRefusals}
 use Rattle.bpg_read_survey.proofs.HeadOf.{head-of}
 use Rattle.bpg_reader.proofs.FileLaws.{too-long}
-use Rattle.bpg_read_survey.proofs.GivenLaws.{given-long, given-refused, given-other, given-same, content-error, content-body, given-refuses}
+use Rattle.bpg_read_survey.proofs.ContentSteps.{content-error, content-body}
+use Rattle.bpg_read_survey.proofs.GivenLaws.{given-long, given-refused, given-other, given-same, given-refuses}
 
 -- ---- a file by its head
 

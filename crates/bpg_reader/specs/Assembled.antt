@@ -1,6 +1,8 @@
--- The record of a file, put together from what its parts were read as, and its entries.
+-- The record of a file, put together from what its parts were read as, and its entries; its coded size.
 use mathlib.Core.List.{List, [], _∷_}
-use Prim.Native.Nat.{ℕ, _-_}
+use Prim.Native.Nat.{ℕ, _+_, _-_, _*_, _/_, _^_}
+use lib.Dec.{ltb}
+use Rattle.bpg_codec.specs.Select.{select}
 use Rattle.bpg_ue7.specs.Ue7.{notZero}
 use Rattle.bpg_format.specs.declared.record.Entry.{Entry}
 use Rattle.bpg_format.specs.declared.record.Record.{Record}
@@ -10,6 +12,10 @@ use Rattle.bpg_format.specs.Records.{codedSize}
 use Rattle.bpg_read_head.specs.declared.head.Head.{Head}
 use Rattle.bpg_read_entries.specs.declared.block.Block.{Block}
 use Rattle.bpg_read_headers.specs.declared.headers.HeadersReading.{HeadersReading}
+
+-- a size rounded up to a multiple of 2^n; 0 where n is above 6, as it is for no accepted header
+abbrev pub roundedSize : (size n : ℕ) → ℕ
+roundedSize size n = select (ltb 6 n) 0 ((size + 2 ^ n - 1) / 2 ^ n * 2 ^ n)
 
 abbrev pub assembledRecord : (len : ℕ) → Head → Block → HeadersReading → List Entry → Record
 assembledRecord len h b x es =

@@ -1,5 +1,5 @@
 -- Request 9/13 on reading in two calls, in its own words and as types over the definitions that the calls' contracts cite. `proofs/Requirements`
--- proves them; what is claimed of the head call alone is in `bpg_read_head/specs/Requirements`.
+-- proves them; what is claimed of the head call alone is in `bpg_head_call/specs/Requirements`.
 use mathlib.Core.Path.{_≡_}
 use mathlib.Core.List.{List}
 use mathlib.Core.Logic.{_≢_}

@@ -7,17 +7,15 @@ use bpg_read_entries::block::Block;
 use bpg_read_head::head::Head;
 use bpg_read_headers::headers::HeadersReading;
 ghost use mathlib.Core.Path.{_≡_};
-ghost use Prim.Native.Nat.{_+_, _≤_, _-_, _*_, _/_, _^_};
-ghost use lib.Dec.{ltb};
+ghost use Prim.Native.Nat.{_≤_};
 ghost use lib.ListN.{replicate};
-ghost use Rattle.bpg_codec.specs.Select.{select};
 ghost use Rattle.bpg_format.specs.Limits.{maxEntries, maxFile};
 ghost use Rattle.bpg_format.specs.Zero.{zeroEntry};
-ghost use Rattle.bpg_reader.specs.Assembled.{assembledRecord, assembledReading};
+ghost use Rattle.bpg_reader.specs.Assembled.{roundedSize, assembledRecord, assembledReading};
 
-// A size rounded up to a multiple of the smallest coding block, whose size is 2^log2_size; 0 where that is above 6, as in no accepted header.
+// A size rounded up to a multiple of the smallest coding block, whose size is 2^log2_size; 0 where log2_size is above 6, as it is in no accepted header.
 pub fn coded_size(size: u32, log2_size: u32) -> u64
-    ensures { λ r. ⌜ r ≡ select (ltb 6 «log2_size») 0 ((size + 2 ^ «log2_size» - 1) / 2 ^ «log2_size» * 2 ^ «log2_size») ⌝ }
+    ensures { λ r. ⌜ r ≡ roundedSize size «log2_size» ⌝ }
 {
     if 6 < log2_size {
         return 0;

@@ -1,5 +1,5 @@
-// Reading a file: the rest but for the entries is surveyed, and the entries are then read a second time and stored in the record where it is answered, so
-// that a short file does not pay for the array of entries.
+// Reading a file: all but the entries is surveyed, and the entries are then read a second time and stored in the record where it is answered, so that the array of
+// entries is cleared once, and copied only where there are entries.
 use crate::answer;
 use bpg_format::Reading;
 use bpg_format::reading_refused;
@@ -9,14 +9,13 @@ use bpg_read_entries::entry;
 use bpg_read_survey::survey;
 ghost use mathlib.Core.Path.{_≡_};
 ghost use mathlib.Core.Logic.{_↔_};
-ghost use Rattle.bpg_codec.specs.Select.{select};
 ghost use Rattle.bpg_format.specs.Rules.{Accepted};
 ghost use Rattle.bpg_format.specs.Records.{readFile};
-ghost use Rattle.bpg_reader.specs.Calls.{bodyList, bodyFile, verdictOf};
+ghost use Rattle.bpg_reader.specs.Calls.{bodyFile, eitherReading, verdictOf};
 
 // What `body` answers, with the head's numbers in a list, or `read`.
 fn read_or_body(file: &[u8], given: &[u64], is_given: bool) -> Reading
-    ensures { λ r. ⌜ r ≡ select «is_given» (bodyList (now (given .entry)) (now (file .entry))) (readFile (now (file .entry))) ⌝ }
+    ensures { λ r. ⌜ r ≡ eitherReading «is_given» (now (given .entry)) (now (file .entry)) ⌝ }
 {
     let found = survey(file, given, is_given);
     let head = found.head;

@@ -1,5 +1,5 @@
 -- `heads::read_list` meets its contract.
-use Rattle.bpg_export.specs.Calls.{eitherReading}
+use Rattle.bpg_reader.specs.Calls.{eitherReading}
 use Rattle.bpg_export.proofs.CallLaws.{listed-parts}
 use borrow.Author.Needs.{needs}
 use Rattle.bpg_export.proofs.heads.read_list.Statement.{statement}

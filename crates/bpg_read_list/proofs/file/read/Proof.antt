@@ -1,5 +1,5 @@
 -- `file::read` meets its contract. The invariant is `Listing`: the entries so far stand in the list.
-use mathlib.Core.Path.{_≡_, refl, sym, ap, _∙_, subst}
+use mathlib.Core.Path.{_≡_, ap, _∙_, subst}
 use mathlib.Core.Bool.{Bool}
 use mathlib.Core.List.{List}
 use Prim.Native.Nat.{ℕ, _-_, _≤_}
@@ -8,20 +8,18 @@ use native.Mathlib.Omega.{arith}
 use lib.ListN.{length}
 use borrow.Author.Needs.{needs}
 use Rattle.bpg_codec.specs.Buffer.{written}
-use Rattle.bpg_codec.specs.Select.{select}
 use Rattle.bpg_codec.specs.Lawful.{All, Byte}
 use Rattle.bpg_codec.proofs.Tokens.{all-bytes}
 use Rattle.bpg_format.specs.declared.answer.Reading.{Reading}
-use Rattle.bpg_format.specs.declared.answer.Written.{Written}
 use Rattle.bpg_format.specs.Zero.{refusedReading, refusedWritten}
-use Rattle.bpg_format.specs.Records.{answerOf, readFile}
+use Rattle.bpg_format.specs.Records.{readFile}
 use Rattle.bpg_head_call.specs.declared.call.CodedHead.{CodedHead}
 use Rattle.bpg_read_survey.specs.declared.given.FileSurvey.{FileSurvey}
 use Rattle.bpg_read_survey.specs.Bodies.{asked}
 use Rattle.bpg_read_survey.proofs.FileRead.{FileRead, survey-refused, survey-read, counted, short, data-inside, min-cb-small}
 use Rattle.bpg_read_survey.proofs.Walking.{begins, end-inside, ends-inside, length-small}
-use Rattle.bpg_reader.specs.Calls.{bodyList}
-use Rattle.bpg_reader.proofs.GivenLaws.{either}
+use Rattle.bpg_reader.specs.Calls.{eitherReading}
+use Rattle.bpg_reader.proofs.GivenLaws.{either, answered}
 use Rattle.bpg_export_list.specs.Numbers.{listLength}
 use Rattle.bpg_export_list.proofs.NumberLaws.{written-length}
 use Rattle.bpg_export_list.proofs.WriteLaws.{Answers, file-refused}
@@ -56,7 +54,7 @@ module _ (c : tie.After-survey Inv-loop μ-loop) where
 
   -- what is asked for
   abbrev reading : Reading
-  reading = select (start .args .is-given) (bodyList (start .args .given .now) file) (readFile file)
+  reading = eitherReading (start .args .is-given) (start .args .given .now) file
 
   bytes : All Byte file
   bytes = all-bytes file (λ i. omega (arith, c .before .before .before .shared-slice-known .given i))
@@ -71,9 +69,8 @@ module _ (c : tie.Else1 Inv-loop μ-loop) where
   whole : FileRead (file s) (found s .head) (found s .rest)
   whole = survey-read (isAsked s) (file s) (found s) (s .survey .ensures) (bytes s) (c .if1 .left) .0
 
-  answered : readFile (file s) ≡ reading s
-  unfolding readFile
-  answered = ap answerOf (sym (survey-read (isAsked s) (file s) (found s) (s .survey .ensures) (bytes s) (c .if1 .left) .1)) ∙ either _ (start s .args .is-given) _
+  asked-for : readFile (file s) ≡ reading s
+  asked-for = answered _ _ (file s) (survey-read (isAsked s) (file s) (found s) (s .survey .ensures) (bytes s) (c .if1 .left) .1)
 
   few : found s .rest .block .«entry_count» ≤ 64
   few = omega (arith, counted whole, whole .rules .entry-limit)
@@ -101,7 +98,7 @@ returns c =
 returns-2 : tie.Need-returns-2 Inv-loop μ-loop
 returns-2 c =
     let e = c .before .before .before in
-    let a = subst (λ (r : Reading). Answers (numbers (s e)) r (refusedWritten 20 0) (numbers (s e))) (answered e) (too-short (numbers (s e)) (file (s e)) (found (s e)) (whole e) (c .before .if2 .taken)) in
+    let a = subst (λ (r : Reading). Answers (numbers (s e)) r (refusedWritten 20 0) (numbers (s e))) (asked-for e) (too-short (numbers (s e)) (file (s e)) (found (s e)) (whole e) (c .before .if2 .taken)) in
     (c .written-refused2 .ensures ∙ a .0, a .1)
 
 put-fixed-requires : tie.Need-put-fixed-requires Inv-loop μ-loop
@@ -158,7 +155,7 @@ returns-3 c =
     (all-listed (l .inv) (c .loop-test .left) (w .content) (w .read))
     in
     let n = listLength (found (s e) .rest .block .«entry_count») in
-    subst (λ (r : Reading). Answers (numbers (s e)) r (record { status = 0; offset = 0; count = n }) (l .numbers)) (answered e) a
+    subst (λ (r : Reading). Answers (numbers (s e)) r (record { status = 0; offset = 0; count = n }) (l .numbers)) (asked-for e) a
 
 pub read-spec : {M : Type 1} → statement M
 read-spec =

@@ -9,9 +9,9 @@ use borrow.Author.Needs.{needs}
 use Rattle.bpg_codec.specs.Lawful.{All, Byte}
 use Rattle.bpg_codec.proofs.Tokens.{all-bytes}
 use Rattle.bpg_format.specs.Read.{readBody}
-use Rattle.bpg_read_head.specs.declared.head.Head.{Head as HeadReading}
+use Rattle.bpg_read_head.specs.declared.head.Head.{Head as PlacedHead}
 use Rattle.bpg_head_call.specs.declared.call.CodedHead.{CodedHead}
-use Rattle.bpg_read_survey.specs.declared.rest.Survey.{Survey}
+use Rattle.bpg_read_survey.specs.declared.rest.RestSurvey.{RestSurvey}
 use Rattle.bpg_read_survey.specs.declared.given.FileSurvey.{FileSurvey}
 use Rattle.bpg_read_survey.specs.Given.{readGiven}
 use Rattle.bpg_read_survey.specs.Bodies.{headFields, HeadRead, asked}
@@ -20,7 +20,7 @@ use Rattle.bpg_read_survey.proofs.GivenLaws.{stopped, goes-on}
 use Rattle.bpg_read_survey.proofs.given.survey.Statement.{statement}
 use Rattle.bpg_read_survey.proofs.given.survey.Tie as tie
 
-abbrev with : HeadReading → Survey → FileSurvey
+abbrev with : PlacedHead → RestSurvey → FileSurvey
 with h s = record { head = h; rest = s }
 
 module _ (c : tie.After-before-body) where

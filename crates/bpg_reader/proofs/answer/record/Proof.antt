@@ -1,6 +1,5 @@
 -- `answer::record` meets its contract.
 use mathlib.Core.Path.{ap}
-use mathlib.Core.List.{List}
 use borrow.Author.Needs.{needs}
 use Rattle.bpg_format.specs.declared.record.Record.{Record}
 use Rattle.bpg_reader.proofs.answer.record.Statement.{statement}

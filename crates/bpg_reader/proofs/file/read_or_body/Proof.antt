@@ -1,24 +1,23 @@
 -- `file::read_or_body` meets its contract. The invariant is `Filling`: the entries so far stand in the record.
-use mathlib.Core.Path.{_≡_, sym, ap, ap₂, _∙_}
+use mathlib.Core.Path.{_≡_, ap, ap₂, _∙_}
 use mathlib.Core.Bool.{Bool}
 use mathlib.Core.List.{List}
 use Prim.Native.Nat.{ℕ, _-_}
 use native.Mathlib.Nat.{sub-zero}
 use native.Mathlib.Omega.{arith}
 use borrow.Author.Needs.{needs}
-use Rattle.bpg_codec.specs.Select.{select}
 use Rattle.bpg_codec.specs.Lawful.{All, Byte}
 use Rattle.bpg_codec.proofs.Tokens.{all-bytes}
 use Rattle.bpg_format.specs.declared.record.Record.{Record}
 use Rattle.bpg_format.specs.declared.answer.Reading.{Reading}
-use Rattle.bpg_format.specs.Records.{entriesAt, padEntries, withEntries, answerOf, readFile}
+use Rattle.bpg_format.specs.Records.{entriesAt, padEntries, withEntries, readFile}
 use Rattle.bpg_head_call.specs.declared.call.CodedHead.{CodedHead}
 use Rattle.bpg_read_survey.specs.declared.given.FileSurvey.{FileSurvey}
 use Rattle.bpg_read_survey.specs.Bodies.{asked}
 use Rattle.bpg_read_survey.proofs.FileRead.{FileRead, survey-refused, survey-read, short, data-inside, min-cb-small}
 use Rattle.bpg_read_survey.proofs.Walking.{begins, end-inside}
-use Rattle.bpg_reader.specs.Calls.{bodyList}
-use Rattle.bpg_reader.proofs.GivenLaws.{either}
+use Rattle.bpg_reader.specs.Calls.{eitherReading}
+use Rattle.bpg_reader.proofs.GivenLaws.{either, answered}
 use Rattle.bpg_reader.proofs.AssembledLaws.{assembled-file, assembled-empty}
 use Rattle.bpg_reader.proofs.Filling.{Filling, no-entries, fills, full}
 use Rattle.bpg_reader.proofs.file.read_or_body.Statement.{statement}
@@ -59,9 +58,8 @@ module _ (c : tie.Else1 Inv-loop μ-loop) where
   whole = survey-read (isAsked s) (file s) (found s) (s .survey .ensures) (bytes s) (c .if1 .left) .0
 
   -- what reading answers is asked for
-  answered : readFile (file s) ≡ select (start s .args .is-given) (bodyList (start s .args .given .now) (file s)) (readFile (file s))
-  unfolding readFile
-  answered = ap answerOf (sym (survey-read (isAsked s) (file s) (found s) (s .survey .ensures) (bytes s) (c .if1 .left) .1)) ∙ either _ (start s .args .is-given) _
+  asked-for : readFile (file s) ≡ eitherReading (start s .args .is-given) (start s .args .given .now) (file s)
+  asked-for = answered _ _ (file s) (survey-read (isAsked s) (file s) (found s) (s .survey .ensures) (bytes s) (c .if1 .left) .1)
 
 -- where the loop begins
 abbrev entered : tie.After-next Inv-loop μ-loop → tie.Else1 Inv-loop μ-loop
@@ -78,7 +76,7 @@ assemble-requires : tie.Need-assemble-requires Inv-loop μ-loop
 assemble-requires c κs = let w = whole (c .before .before) in (short w, (data-inside w, min-cb-small w))
 
 returns-2 : tie.Need-returns-2 Inv-loop μ-loop
-returns-2 c = let e = c .before .before .before in c .assemble .ensures ∙ assembled-empty (whole e) (c .before .if2 .taken) ∙ answered e
+returns-2 c = let e = c .before .before .before in c .assemble .ensures ∙ assembled-empty (whole e) (c .before .if2 .taken) ∙ asked-for e
 
 assemble-requires-2 : tie.Need-assemble-requires-2 Inv-loop μ-loop
 assemble-requires-2 c κs = let w = whole (c .before .before) in (short w, (data-inside w, min-cb-small w))
@@ -125,7 +123,7 @@ returns-3 c =
     let a = n .before .before .before .before .before in
     let es = padEntries (entriesAt (found (surveyed e) .head .end .0) (w .content .extensions)) in
     ap₂ replaced (a .assemble2 .ensures) (full (l .inv) (c .loop-test .left) (w .content) (w .read) ∙ ap (λ (r : Reading). withEntries (r .«record») es) (a .assemble2 .ensures))
-    ∙ assembled-file w ∙ answered e
+    ∙ assembled-file w ∙ asked-for e
 
 pub read-or-body-spec : {M : Type 1} → statement M
 read-or-body-spec =
