@@ -1,26 +1,21 @@
 -- Heads compared field by field, and what the call answers.
 use mathlib.Core.Path.{_≡_, refl, sym, ap, _∙_, subst}
-use mathlib.Core.Bool.{Bool, true, false, _&&_, and-true, and-assoc}
+use mathlib.Core.Bool.{Bool, true, false}
 use mathlib.Core.List.{List, [], _∷_, _++_}
-use Prim.Native.Nat.{ℕ, zero, suc, _+_, _≤_, _<_}
+use Prim.Native.Nat.{ℕ, _<_}
 use native.Mathlib.Omega.{arith}
 use lib.Dec.{T, eqb}
-use lib.ListN.{length, take, drop, getD, length-take}
-use mir.Val.{boolByte}
+use lib.ListN.{length, take, getD, length-take}
+use Rattle.bpg_codec.specs.Lists.{same}
 use Rattle.bpg_codec.specs.Bits.{bit}
 use Rattle.bpg_codec.specs.Outcome.{Outcome, ok, error}
 use Rattle.bpg_codec.proofs.Select.{is-true}
-use Rattle.bpg_codec.proofs.Lists.{drop-next, same-equal, same-refl}
+use Rattle.bpg_codec.proofs.Lists.{same-equal, same-refl}
 use Rattle.bpg_format.specs.Read.{Head, readHead}
 use Rattle.bpg_read_head.specs.declared.head.Head.{Head as PlacedHead}
 use Rattle.bpg_head_call.specs.declared.call.CodedHead.{CodedHead}
 use Rattle.bpg_read_head.specs.Heads.{headAnswer}
-use Rattle.bpg_head_call.specs.Calls.{fieldsOf, headReading, headFile, headNumbers, isHead, sameFlags}
-
--- a flag as a number
-pub flag-number : (t : Bool) → boolByte t ≡ bit t
-flag-number true = refl
-flag-number false = refl
+use Rattle.bpg_head_call.specs.Calls.{fieldsOf, headReading, headFile, headNumbers, isHead}
 
 -- ---- a head is its numbers
 
@@ -78,21 +73,9 @@ shorter l h k =
     by-bool true f g = f refl
     by-bool false f g = g refl
 
--- the numbers of a list from k on
-abbrev nths : (n k : ℕ) → List ℕ → List ℕ
-nths zero k l = []
-nths (suc n) k l = getD l k 0 ∷ nths n (k + 1) l
-
-nths-are : (n k : ℕ) (l : List ℕ) → k + n ≤ length l → take n (drop k l) ≡ nths n k l
-nths-are zero k l h = refl
-nths-are (suc n) k l h = rw (drop-next l k 0 (omega arith)) (ap (λ (m : List ℕ). getD l k 0 ∷ m) (nths-are n (k + 1) l (omega arith)))
-
-pub each-number : (l : List ℕ) (h : CodedHead) → 12 ≤ length l
-    → (sameFlags l (h .flags)
-    && (eqb (getD l 8 0) (h .«picture_width») && (eqb (getD l 9 0) (h .«picture_height») && (eqb (getD l 10 0) (h .«data_length») && eqb (getD l 11 0) (h .«extension_length»)))))
-    ≡ isHead l h
+pub twelve-same : (l : List ℕ) (h : CodedHead) (i : ℕ) → i ≡ 12 → same (take i l) (take i (headNumbers h)) ≡ isHead l h
 unfolding isHead
-each-number l h k = rw (nths-are 12 0 l k) (simp (and-true, and-assoc))
+twelve-same l h i e = rw e
 
 -- a head as the code holds it, without its places, is the call's answer
 pub without-places : (f : List ℕ) (h : PlacedHead) → h ≡ headAnswer (readHead f)

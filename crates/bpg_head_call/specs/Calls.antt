@@ -1,10 +1,10 @@
 -- The head call (request 9/13): "a head call, up to and including the extension length as a number". `readHead` says what is read; here are the
 -- fields that the caller is given, and as what numbers they are compared and handed to C.
-use mathlib.Core.Bool.{Bool, _&&_}
+use mathlib.Core.Bool.{Bool}
 use mathlib.Core.List.{List, [], _∷_, _++_}
 use Prim.Native.Nat.{ℕ}
-use lib.Dec.{T, eqb}
-use lib.ListN.{take, getD}
+use lib.Dec.{T}
+use lib.ListN.{take}
 use Rattle.bpg_codec.specs.Lists.{same, member}
 use Rattle.bpg_codec.specs.Outcome.{Outcome, ok, error}
 use Rattle.bpg_codec.specs.Bits.{bit}
@@ -72,13 +72,3 @@ headNumbers h = flagNumbers (h .flags) ++ (h .«picture_width» ∷ h .«picture
 -- a list begins with the numbers of this head: no field differs. One that is shorter does not, nor one with a number that no field holds
 unfoldable pub isHead : List ℕ → CodedHead → Bool
 isHead l h = same (take 12 l) (headNumbers h)
-
--- of its first eight, for an inner contract
-abbrev pub sameFlags : List ℕ → CodedFlags → Bool
-sameFlags l f =
-    eqb (getD l 0 0) (f .«pixel_format»)
-    && (eqb (getD l 1 0) (bit (f .«alpha1_flag»))
-    && (eqb (getD l 2 0) (f .«bit_depth_minus_8»)
-    && (eqb (getD l 3 0) (f .«color_space»)
-    && (eqb (getD l 4 0) (bit (f .«extension_present_flag»))
-    && (eqb (getD l 5 0) (bit (f .«alpha2_flag»)) && (eqb (getD l 6 0) (bit (f .«limited_range_flag»)) && eqb (getD l 7 0) (bit (f .«animation_flag»))))))))

@@ -3,9 +3,7 @@ use bpg_read_head::flags::Flags;
 use bpg_read_head::head;
 use bpg_read_head::head::Head;
 ghost use mathlib.Core.Path.{_≡_};
-ghost use Prim.Native.Nat.{_≤_};
-ghost use lib.ListN.{length};
-ghost use Rattle.bpg_head_call.specs.Calls.{fieldsOf, headNumbers, sameFlags, isHead, headFile};
+ghost use Rattle.bpg_head_call.specs.Calls.{fieldsOf, headNumbers, isHead, headFile};
 
 // How many fields a head has.
 pub const HEAD_NUMBERS: usize = 12;
@@ -61,22 +59,6 @@ pub fn head_numbers(head: CodedHead) -> [u64; HEAD_NUMBERS]
     ]
 }
 
-// Whether the first eight numbers are these flags'.
-fn has_flags(list: &[u64], flags: Flags) -> bool
-    requires { ⌜ 12 ≤ length (now list) ⌝ }
-    ensures { λ r. ⌜ r ≡ sameFlags (now (list .entry)) flags ⌝ }
-{
-    let format = list[0] == flags.pixel_format as u64;
-    let alpha1 = list[1] == flags.alpha1_flag as u64;
-    let depth = list[2] == flags.bit_depth_minus_8 as u64;
-    let space = list[3] == flags.color_space as u64;
-    let extension = list[4] == flags.extension_present_flag as u64;
-    let alpha2 = list[5] == flags.alpha2_flag as u64;
-    let range = list[6] == flags.limited_range_flag as u64;
-    let animation = list[7] == flags.animation_flag as u64;
-    format & (alpha1 & (depth & (space & (extension & (alpha2 & (range & animation))))))
-}
-
 // Whether a list begins with the numbers of this head: no field differs. What stands after them is not looked at.
 pub fn is_head(list: &[u64], head: CodedHead) -> bool
     ensures { λ r. ⌜ r ≡ isHead (now (list .entry)) head ⌝ }
@@ -84,13 +66,14 @@ pub fn is_head(list: &[u64], head: CodedHead) -> bool
     if list.len() < HEAD_NUMBERS {
         return false;
     }
-    let flags = head.flags;
-    let width = list[8] == head.picture_width as u64;
-    let height = list[9] == head.picture_height as u64;
-    let data = list[10] == head.data_length as u64;
-    let extension = list[11] == head.extension_length as u64;
-    let same = has_flags(list, flags);
-    same & (width & (height & (data & extension)))
+    let numbers = head_numbers(head);
+    let mut all = true;
+    let mut i = 0;
+    while i < HEAD_NUMBERS {
+        all = all & (list[i] == numbers[i]);
+        i += 1;
+    }
+    all
 }
 
 // The head of a file. Its first 27 bytes are always enough, and so is all of a shorter file; whether the block fits the file is not judged.
