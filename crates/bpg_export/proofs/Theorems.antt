@@ -9,7 +9,7 @@ use Rattle.bpg_format.specs.Write.{writtenBuffer}
 use Rattle.bpg_export_list.specs.Numbers.{readingNumbers}
 use Rattle.bpg_export_list.proofs.WriteLaws.{listed-ok}
 use Rattle.bpg_import_list.specs.Theorems.{ListOf}
-use Rattle.bpg_export.specs.Calls.{readAnswer, readNumbers}
+use Rattle.bpg_export_read.specs.Calls.{readAnswer, readNumbers}
 use Rattle.bpg_export.specs.Theorems.{CallTheorems}
 use Rattle.bpg_export.proofs.ReadTyped.{read-listable}
 

@@ -1,3 +1,2 @@
--- What the calls for C and Rust answer.
-pub mod Calls
+-- What is claimed of the calls for C and Rust.
 pub mod Theorems

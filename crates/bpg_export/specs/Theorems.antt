@@ -6,7 +6,7 @@ use Rattle.bpg_codec.specs.Lawful.{All, Byte}
 use Rattle.bpg_format.specs.Records.{readFile}
 use Rattle.bpg_import_list.specs.Typing.{Listable}
 use Rattle.bpg_import_list.specs.Theorems.{ListOf}
-use Rattle.bpg_export.specs.Calls.{readAnswer, readNumbers}
+use Rattle.bpg_export_read.specs.Calls.{readAnswer, readNumbers}
 
 -- the record of a file is one that a list can give, and the list that reading leaves is that record's; so it is written as the record is
 -- (`ListTheorems` of bpg_import_list)

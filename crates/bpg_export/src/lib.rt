@@ -24,7 +24,7 @@ ghost use Rattle.bpg_format.specs.Records.{readFile};
 ghost use Rattle.bpg_format.specs.Parts.{entryOf};
 ghost use Rattle.bpg_format.specs.Pictures.{canonicalFile, canonicalBuffer};
 ghost use Rattle.bpg_import_list.specs.Calls.{writeAnswer, writeBytes};
-ghost use Rattle.bpg_export.specs.Calls.{readAnswer, readNumbers};
+ghost use Rattle.bpg_export_read.specs.Calls.{readAnswer, readNumbers};
 
 // Reads a file: status and offset, and the numbers of its record and coded size, as many as it has entries for.
 #[no_mangle]
@@ -33,8 +33,7 @@ pub extern "C" fn bpg_read(file: &[u8], numbers: &mut [u64], offset: &mut usize)
     ensures { λ _. ⌜ now (offset .exit) ≡ readAnswer (now (file .entry)) (now (numbers .entry)) .offset ⌝ }
     ensures { λ _. ⌜ now (numbers .exit) ≡ readNumbers (now (file .entry)) (now (numbers .entry)) ⌝ }
 {
-    let none = [0u64; 1];
-    heads::read_list(file, &none, false, numbers, offset)
+    bpg_export_read::read(file, numbers, offset)
 }
 
 // Tag, range and tag offset of entry k, from 0; false and zeros where there is none. A refused file has no entry.

@@ -1,9 +1,9 @@
--- `heads::read_list` meets its contract.
+-- `read_list` meets its contract.
 use Rattle.bpg_reader.specs.Calls.{eitherReading}
-use Rattle.bpg_export.proofs.CallLaws.{listed-parts}
+use Rattle.bpg_export_read.proofs.CallLaws.{listed-parts}
 use borrow.Author.Needs.{needs}
-use Rattle.bpg_export.proofs.heads.read_list.Statement.{statement}
-use Rattle.bpg_export.proofs.heads.read_list.Tie as tie
+use Rattle.bpg_export_read.proofs.read_list.Statement.{statement}
+use Rattle.bpg_export_read.proofs.read_list.Tie as tie
 
 returns : tie.Need-returns
 returns c =

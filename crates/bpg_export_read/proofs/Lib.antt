@@ -1,0 +1,2 @@
+-- Laws of reading for C and Rust.
+pub mod CallLaws

@@ -1,0 +1,2 @@
+-- What reading answers to C and Rust.
+pub mod Calls
