@@ -1,28 +1,13 @@
 // The head of a file for callers that go by it alone (request 9/13): the list view fetches 27 bytes.
-use bpg_read_head::flags::Flags;
+pub use bpg_head_rules::CodedHead;
+pub use bpg_head_rules::HeadReading;
 use bpg_read_head::head;
 use bpg_read_head::head::Head;
 ghost use mathlib.Core.Path.{_≡_};
-ghost use Rattle.bpg_head_call.specs.Calls.{fieldsOf, headNumbers, isHead, headFile};
+ghost use Rattle.bpg_head_rules.specs.Calls.{fieldsOf, headNumbers, isHead, headFile};
 
 // How many fields a head has.
 pub const HEAD_NUMBERS: usize = 12;
-
-// The fields of a head as coded. Without the extension flag the extension length is 0.
-pub struct CodedHead {
-    pub flags: Flags,
-    pub picture_width: u32,
-    pub picture_height: u32,
-    pub data_length: u32,
-    pub extension_length: u32,
-}
-
-// Status 0 and the head; or a refusal and zeros.
-pub struct HeadReading {
-    pub status: u8,
-    pub offset: usize,
-    pub head: CodedHead,
-}
 
 // A head without the places that later refusals name; a refused one is all zero.
 pub fn coded(head: Head) -> CodedHead

@@ -12,8 +12,8 @@ use Rattle.bpg_codec.proofs.Buffer.{stored}
 use Rattle.bpg_format.specs.declared.answer.Written.{Written}
 use Rattle.bpg_format.specs.Zero.{refusedWritten}
 use Rattle.bpg_format.specs.Write.{writtenAnswer, writtenBuffer}
-use Rattle.bpg_head_call.specs.declared.call.HeadReading.{HeadReading}
-use Rattle.bpg_head_call.specs.Calls.{headFile, headNumbers}
+use Rattle.bpg_head_rules.specs.declared.HeadReading.{HeadReading}
+use Rattle.bpg_head_rules.specs.Calls.{headFile, headNumbers}
 use Rattle.bpg_head_list.specs.Calls.{headListed, headAnswer, headBuffer}
 
 module _ (f numbers : List ℕ) (r : HeadReading) (e : r ≡ headFile f) where

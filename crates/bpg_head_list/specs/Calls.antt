@@ -7,8 +7,8 @@ use lib.ListN.{length}
 use Rattle.bpg_codec.specs.Outcome.{Outcome, ok, _>>=_, guard}
 use Rattle.bpg_format.specs.declared.answer.Written.{Written}
 use Rattle.bpg_format.specs.Write.{writtenAnswer, writtenBuffer}
-use Rattle.bpg_head_call.specs.declared.call.HeadReading.{HeadReading}
-use Rattle.bpg_head_call.specs.Calls.{headFile, headNumbers}
+use Rattle.bpg_head_rules.specs.declared.HeadReading.{HeadReading}
+use Rattle.bpg_head_rules.specs.Calls.{headFile, headNumbers}
 
 -- the head's own refusals, then 20 for a list shorter than 12
 abbrev pub headListed : (capacity : ℕ) → HeadReading → Outcome (List ℕ)

@@ -24,8 +24,8 @@ use Rattle.bpg_format.proofs.ReadingRefusals.{content-refuses}
 use Rattle.bpg_read_head.specs.declared.head.Head.{Head as PlacedHead}
 use Rattle.bpg_read_head.specs.Heads.{headAnswer}
 use Rattle.bpg_read_head.proofs.HeadLaws.{head-facts}
-use Rattle.bpg_head_call.specs.declared.call.CodedHead.{CodedHead}
-use Rattle.bpg_head_call.specs.Calls.{codedHead, fieldsOf}
+use Rattle.bpg_head_rules.specs.declared.CodedHead.{CodedHead}
+use Rattle.bpg_head_rules.specs.Calls.{codedHead, fieldsOf}
 use Rattle.bpg_read_survey.specs.declared.rest.Stop.{Stop}
 use Rattle.bpg_read_survey.specs.Given.{readGiven, BodyStatus}
 use Rattle.bpg_read_survey.specs.Bodies.{headFields, HeadRead, stop, beforeBody}

@@ -16,9 +16,9 @@ use Rattle.bpg_format.specs.Content.{Extension, Content}
 use Rattle.bpg_format.specs.Tests.{dataAllowed}
 use Rattle.bpg_format.specs.Read.{Head, readHead, animationOf}
 use Rattle.bpg_read_head.specs.declared.head.Head.{Head as PlacedHead}
-use Rattle.bpg_head_call.specs.declared.call.CodedHead.{CodedHead}
+use Rattle.bpg_head_rules.specs.declared.CodedHead.{CodedHead}
 use Rattle.bpg_read_head.specs.FlagBytes.{flagFields}
-use Rattle.bpg_head_call.specs.Calls.{fieldsOf, isHead}
+use Rattle.bpg_head_rules.specs.Calls.{fieldsOf, isHead}
 use Rattle.bpg_read_survey.specs.declared.rest.Stop.{Stop}
 
 -- what a head that was read says

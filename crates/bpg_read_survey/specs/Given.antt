@@ -10,8 +10,8 @@ use Rattle.bpg_codec.specs.Outcome.{Outcome, _>>=_, guard}
 use Rattle.bpg_format.specs.Limits.{maxFile}
 use Rattle.bpg_format.specs.Content.{Content}
 use Rattle.bpg_format.specs.Read.{readHead, readBody, readingStatuses}
-use Rattle.bpg_head_call.specs.declared.call.CodedHead.{CodedHead}
-use Rattle.bpg_head_call.specs.Calls.{codedHead}
+use Rattle.bpg_head_rules.specs.declared.CodedHead.{CodedHead}
+use Rattle.bpg_head_rules.specs.Calls.{codedHead}
 
 -- "the body gives 1, the head's, 21 at 0 for a head that is not this file's, then the rest"; `isOwn`: whether the file's head is the one that was given
 unfoldable pub readGiven : (isOwn : CodedHead → Bool) → List ℕ → Outcome Content

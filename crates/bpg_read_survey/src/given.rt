@@ -9,7 +9,7 @@ use bpg_head_call::call::is_head;
 use bpg_read_head::head;
 use bpg_read_head::head::Head;
 ghost use mathlib.Core.Path.{_≡_};
-ghost use Rattle.bpg_head_call.specs.Calls.{fieldsOf};
+ghost use Rattle.bpg_head_rules.specs.Calls.{fieldsOf};
 ghost use Rattle.bpg_read_survey.specs.Given.{readGiven};
 ghost use Rattle.bpg_read_survey.specs.Bodies.{asked, beforeBody};
 ghost use Rattle.bpg_read_survey.specs.Surveys.{fileSurvey};

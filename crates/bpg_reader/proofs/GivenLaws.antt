@@ -11,8 +11,8 @@ use Rattle.bpg_format.specs.declared.answer.Reading.{Reading}
 use Rattle.bpg_format.specs.Content.{Content}
 use Rattle.bpg_format.specs.Read.{readContent}
 use Rattle.bpg_format.specs.Records.{answerOf, readFile}
-use Rattle.bpg_head_call.specs.declared.call.CodedHead.{CodedHead}
-use Rattle.bpg_head_call.specs.Calls.{headNumbers}
+use Rattle.bpg_head_rules.specs.declared.CodedHead.{CodedHead}
+use Rattle.bpg_head_rules.specs.Calls.{headNumbers}
 use Rattle.bpg_read_survey.specs.Given.{readGiven}
 use Rattle.bpg_read_survey.specs.declared.given.FileSurvey.{FileSurvey}
 use Rattle.bpg_read_survey.specs.Bodies.{asked}

@@ -19,10 +19,10 @@ use Rattle.bpg_format.specs.Rules.{Rules}
 use Rattle.bpg_format.specs.Read.{Head, readHead, readContent}
 use Rattle.bpg_format.specs.Records.{answerOf, readFile}
 use Rattle.bpg_format.proofs.RuleLaws.{by-tag}
-use Rattle.bpg_head_call.specs.declared.call.CodedHead.{CodedHead}
-use Rattle.bpg_head_call.specs.Calls.{codedHead, headReading, headFile, HeadStatus, headNumbers, isHead}
-use Rattle.bpg_head_call.proofs.CallLaws.{own-head as own-numbers, same-means}
-use Rattle.bpg_head_call.proofs.HeadRefusals.{head-refuses}
+use Rattle.bpg_head_rules.specs.declared.CodedHead.{CodedHead}
+use Rattle.bpg_head_rules.specs.Calls.{codedHead, headReading, headFile, HeadStatus, headNumbers, isHead}
+use Rattle.bpg_head_rules.proofs.CallLaws.{own-head as own-numbers, same-means}
+use Rattle.bpg_head_rules.proofs.HeadRefusals.{head-refuses}
 use Rattle.bpg_read_survey.specs.Given.{readGiven, BodyStatus}
 use Rattle.bpg_reader.specs.Calls.{bodyList, bodyFile}
 use Rattle.bpg_reader.specs.Requirements.{headOfContent, HeadFirst, BodyRefusals}

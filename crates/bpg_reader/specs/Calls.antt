@@ -5,8 +5,8 @@ use Prim.Native.Nat.{ℕ}
 use Rattle.bpg_codec.specs.Select.{select}
 use Rattle.bpg_format.specs.declared.answer.Reading.{Reading}
 use Rattle.bpg_format.specs.Records.{answerOf, readFile}
-use Rattle.bpg_head_call.specs.declared.call.CodedHead.{CodedHead}
-use Rattle.bpg_head_call.specs.Calls.{headNumbers, isHead}
+use Rattle.bpg_head_rules.specs.declared.CodedHead.{CodedHead}
+use Rattle.bpg_head_rules.specs.Calls.{headNumbers, isHead}
 use Rattle.bpg_read_survey.specs.Given.{readGiven}
 use Rattle.bpg_reader.specs.declared.file.Verdict.{Verdict}
 

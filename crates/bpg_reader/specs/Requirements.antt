@@ -1,5 +1,5 @@
 -- Request 9/13 on reading in two calls, in its own words and as types over the definitions that the calls' contracts cite. `proofs/Requirements`
--- proves them; what is claimed of the head call alone is in `bpg_head_call/specs/Requirements`.
+-- proves them; what is claimed of the head call alone is in `bpg_head_rules/specs/Requirements`.
 use mathlib.Core.Path.{_≡_}
 use mathlib.Core.List.{List}
 use mathlib.Core.Logic.{_≢_}
@@ -13,9 +13,9 @@ use Rattle.bpg_format.specs.Content.{Content}
 use Rattle.bpg_format.specs.Syntax.{blockBytes, dataLength, fileOf}
 use Rattle.bpg_format.specs.Rules.{Rules}
 use Rattle.bpg_format.specs.Records.{readFile}
-use Rattle.bpg_head_call.specs.declared.call.CodedHead.{CodedHead}
+use Rattle.bpg_head_rules.specs.declared.CodedHead.{CodedHead}
 use Rattle.bpg_read_head.specs.FlagBytes.{codedFlags}
-use Rattle.bpg_head_call.specs.Calls.{headFile}
+use Rattle.bpg_head_rules.specs.Calls.{headFile}
 use Rattle.bpg_read_survey.specs.Given.{BodyStatus}
 use Rattle.bpg_reader.specs.Calls.{bodyFile}
 

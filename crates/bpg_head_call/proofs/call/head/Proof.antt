@@ -1,6 +1,6 @@
 -- `call::head` meets its contract.
 use borrow.Author.Needs.{needs}
-use Rattle.bpg_head_call.proofs.CallLaws.{without-places}
+use Rattle.bpg_head_rules.proofs.CallLaws.{without-places}
 use Rattle.bpg_head_call.proofs.call.head.Statement.{statement}
 use Rattle.bpg_head_call.proofs.call.head.Tie as tie
 

@@ -6,7 +6,7 @@ use borrow.Author.Needs.{needs}
 use lib.ListN.{length, take}
 use Rattle.bpg_codec.specs.Lists.{same}
 use Rattle.bpg_bytes.proofs.CompareLaws.{one-more}
-use Rattle.bpg_head_call.proofs.CallLaws.{shorter, twelve-same}
+use Rattle.bpg_head_rules.proofs.CallLaws.{shorter, twelve-same}
 use Rattle.bpg_head_call.proofs.call.is_head.Statement.{statement}
 use Rattle.bpg_head_call.proofs.call.is_head.Tie as tie
 

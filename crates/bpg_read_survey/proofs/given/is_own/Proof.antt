@@ -2,7 +2,7 @@
 use mathlib.Core.Path.{ap, _∙_}
 use borrow.Author.Needs.{needs}
 use borrow.Author.Tests.{not-true, not-false}
-use Rattle.bpg_head_call.specs.Calls.{isHead}
+use Rattle.bpg_head_rules.specs.Calls.{isHead}
 use Rattle.bpg_read_survey.proofs.given.is_own.Statement.{statement}
 use Rattle.bpg_read_survey.proofs.given.is_own.Tie as tie
 

@@ -10,7 +10,7 @@ use Rattle.bpg_codec.specs.Lawful.{All, Byte}
 use Rattle.bpg_codec.proofs.Tokens.{all-bytes}
 use Rattle.bpg_format.specs.Read.{readBody}
 use Rattle.bpg_read_head.specs.declared.head.Head.{Head as PlacedHead}
-use Rattle.bpg_head_call.specs.declared.call.CodedHead.{CodedHead}
+use Rattle.bpg_head_rules.specs.declared.CodedHead.{CodedHead}
 use Rattle.bpg_read_survey.specs.declared.rest.RestSurvey.{RestSurvey}
 use Rattle.bpg_read_survey.specs.declared.given.FileSurvey.{FileSurvey}
 use Rattle.bpg_read_survey.specs.Given.{readGiven}

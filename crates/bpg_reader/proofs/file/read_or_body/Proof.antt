@@ -11,7 +11,7 @@ use Rattle.bpg_codec.proofs.Tokens.{all-bytes}
 use Rattle.bpg_format.specs.declared.record.Record.{Record}
 use Rattle.bpg_format.specs.declared.answer.Reading.{Reading}
 use Rattle.bpg_format.specs.Records.{entriesAt, padEntries, withEntries, readFile}
-use Rattle.bpg_head_call.specs.declared.call.CodedHead.{CodedHead}
+use Rattle.bpg_head_rules.specs.declared.CodedHead.{CodedHead}
 use Rattle.bpg_read_survey.specs.declared.given.FileSurvey.{FileSurvey}
 use Rattle.bpg_read_survey.specs.Bodies.{asked}
 use Rattle.bpg_read_survey.proofs.FileRead.{FileRead, survey-refused, survey-read, short, data-inside, min-cb-small}

@@ -13,9 +13,9 @@ use Rattle.bpg_codec.proofs.Select.{is-true}
 use Rattle.bpg_codec.proofs.Lists.{same-equal, same-refl}
 use Rattle.bpg_format.specs.Read.{Head, readHead}
 use Rattle.bpg_read_head.specs.declared.head.Head.{Head as PlacedHead}
-use Rattle.bpg_head_call.specs.declared.call.CodedHead.{CodedHead}
+use Rattle.bpg_head_rules.specs.declared.CodedHead.{CodedHead}
 use Rattle.bpg_read_head.specs.Heads.{headAnswer}
-use Rattle.bpg_head_call.specs.Calls.{fieldsOf, headReading, headFile, headNumbers, isHead}
+use Rattle.bpg_head_rules.specs.Calls.{fieldsOf, headReading, headFile, headNumbers, isHead}
 
 -- ---- a head is its numbers
 

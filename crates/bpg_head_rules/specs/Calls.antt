@@ -11,8 +11,8 @@ use Rattle.bpg_codec.specs.Bits.{bit}
 use Rattle.bpg_format.specs.Read.{Head, readHead}
 use Rattle.bpg_read_head.specs.declared.flags.Flags.{Flags as CodedFlags}
 use Rattle.bpg_read_head.specs.declared.head.Head.{Head as PlacedHead}
-use Rattle.bpg_head_call.specs.declared.call.CodedHead.{CodedHead}
-use Rattle.bpg_head_call.specs.declared.call.HeadReading.{HeadReading}
+use Rattle.bpg_head_rules.specs.declared.CodedHead.{CodedHead}
+use Rattle.bpg_head_rules.specs.declared.HeadReading.{HeadReading}
 use Rattle.bpg_read_head.specs.FlagBytes.{zeroFlags, codedFlags}
 
 abbrev pub zeroHead : CodedHead

@@ -13,7 +13,7 @@ use Rattle.bpg_format.specs.Syntax.{magic}
 use Rattle.bpg_format.specs.Tests.{colorSpaceAllowed}
 use Rattle.bpg_format.specs.Read.{flagsOf, readFlags, readHead}
 use Rattle.bpg_read_head.specs.Heads.{readExtensionLength}
-use Rattle.bpg_head_call.specs.Calls.{HeadStatus}
+use Rattle.bpg_head_rules.specs.Calls.{HeadStatus}
 
 abbrev Numbered : (status offset : ℕ) → Type 0
 Numbered s o = HeadStatus s

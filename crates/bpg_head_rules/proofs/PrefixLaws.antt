@@ -17,7 +17,7 @@ use Rattle.bpg_codec.proofs.Tokens.{all-drop}
 use Rattle.bpg_ue7.specs.Ue7.{ue7Rest, ue7Decode, notZero}
 use Rattle.bpg_format.specs.Read.{readFlags, Head, readHead}
 use Rattle.bpg_read_head.specs.Heads.{readExtensionLength}
-use Rattle.bpg_head_call.specs.Requirements.{enoughBytes}
+use Rattle.bpg_head_rules.specs.Requirements.{enoughBytes}
 
 -- m bytes more take a value above its limit, whatever they are
 abbrev Large : (m v : ℕ) → Type 0

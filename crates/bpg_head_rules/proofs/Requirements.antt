@@ -9,11 +9,11 @@ use Rattle.bpg_codec.specs.Outcome.{Outcome, ok, error}
 use Rattle.bpg_codec.specs.Lawful.{All, Byte}
 use Rattle.bpg_ue7.specs.Ue7.{ue7Rest, ue7Decode}
 use Rattle.bpg_format.specs.Read.{Head, readFlags, readHead}
-use Rattle.bpg_head_call.specs.Calls.{refusedHeadReading, headReading, headFile, HeadStatus}
-use Rattle.bpg_head_call.specs.Requirements.{longest, enoughBytes, oversize, HeadCall}
-use Rattle.bpg_head_call.proofs.HeadRefusals.{head-refuses}
-use Rattle.bpg_head_call.proofs.PrefixLaws.{first-bytes}
-use Rattle.bpg_head_call.proofs.OwnBytes.{own-bytes}
+use Rattle.bpg_head_rules.specs.Calls.{refusedHeadReading, headReading, headFile, HeadStatus}
+use Rattle.bpg_head_rules.specs.Requirements.{longest, enoughBytes, oversize, HeadCall}
+use Rattle.bpg_head_rules.proofs.HeadRefusals.{head-refuses}
+use Rattle.bpg_head_rules.proofs.PrefixLaws.{first-bytes}
+use Rattle.bpg_head_rules.proofs.OwnBytes.{own-bytes}
 
 enough : (f : List ℕ) → All Byte f → (n : ℕ) → enoughBytes ≤ n → headFile (take n f) ≡ headFile f
 unfolding headFile

@@ -8,7 +8,7 @@ use lib.ListN.{take}
 use Rattle.bpg_codec.specs.Outcome.{ok}
 use Rattle.bpg_codec.specs.Lawful.{All, Byte}
 use Rattle.bpg_format.specs.Read.{Head, readHead}
-use Rattle.bpg_head_call.specs.Calls.{refusedHeadReading, headFile, HeadStatus}
+use Rattle.bpg_head_rules.specs.Calls.{refusedHeadReading, headFile, HeadStatus}
 
 -- "(a fourth number may need a sixth byte to be refused)": three numbers of five bytes, and such a fourth
 abbrev pub longest : List ℕ

@@ -15,7 +15,7 @@ use Rattle.bpg_ue7.proofs.Advances.{ue7-advances}
 use Rattle.bpg_format.specs.Read.{readFlags, Head, readHead}
 use Rattle.bpg_read_head.specs.Heads.{readExtensionLength}
 use Rattle.bpg_read_head.proofs.HeadLaws.{optional-advanced}
-use Rattle.bpg_head_call.proofs.PrefixLaws.{next-cut, flags-agree, after-flags}
+use Rattle.bpg_head_rules.proofs.PrefixLaws.{next-cut, flags-agree, after-flags}
 
 module _ (end : ℕ) where
   -- what was read, in a region that is cut off at `end`
