@@ -9,28 +9,39 @@ ghost use Prim.Native.Nat.{_≤_};
 const NUMBERS: usize = 400;
 
 // What is missing counts as 0.
-fn byte(s: &[u8], at: usize) -> u8 {
+pub(crate) fn byte(s: &[u8], at: usize) -> u8 {
     if at < s.len() {
         return s[at];
     }
     0
 }
 
-// Five bytes, the high byte first.
-fn number(s: &[u8], at: usize) -> u64
-    requires { ⌜ at ≤ 3000 ⌝ }
+// Four bytes, the high byte first.
+fn four_bytes(s: &[u8], at: usize) -> u32
+    requires { ⌜ at ≤ 3300 ⌝ }
 {
-    let high = byte(s, at) as u64 * 256 + byte(s, at + 1) as u64;
-    let middle = byte(s, at + 2) as u64 * 256 + byte(s, at + 3) as u64;
-    (high * 65_536 + middle) * 256 + byte(s, at + 4) as u64
+    let high = byte(s, at) as u32 * 256 + byte(s, at + 1) as u32;
+    high * 65_536 + (byte(s, at + 2) as u32 * 256 + byte(s, at + 3) as u32)
 }
 
-fn list(s: &[u8], numbers: &mut [u64])
+// Number k of a list, which begins after two bytes: eight bytes, or five.
+fn number(s: &[u8], k: usize, is_long: bool) -> u64
+    requires { ⌜ k ≤ 400 ⌝ }
+{
+    if is_long {
+        let high = four_bytes(s, 2 + 8 * k) as u64;
+        return high * 4_294_967_296 + four_bytes(s, 6 + 8 * k) as u64;
+    }
+    let high = byte(s, 2 + 5 * k) as u64;
+    high * 4_294_967_296 + four_bytes(s, 3 + 5 * k) as u64
+}
+
+pub(crate) fn list(s: &[u8], numbers: &mut [u64], is_long: bool)
     requires { do ⌜ (← ⟦numbers.len()⟧) ≤ 400 ⌝ }
 {
     let mut k: usize = 0;
     while k < numbers.len() {
-        numbers[k] = number(s, 2 + 5 * k);
+        numbers[k] = number(s, k, is_long);
         k += 1;
     }
 }
@@ -72,6 +83,6 @@ pub(crate) fn show(s: &[u8]) {
         return;
     }
     let mut numbers = [0u64; NUMBERS];
-    list(s, &mut numbers);
+    list(s, &mut numbers, false);
     show_first(&numbers, count, &s[end + 1..], byte(s, end) as usize);
 }

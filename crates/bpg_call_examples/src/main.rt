@@ -6,9 +6,12 @@
 //   01  a list of numbers to be written, see `lists`
 //   02  a file with frames or thumbnails, see `frames`
 //   03  bytes with or without emulation prevention, see `escaping`
+//   04  a list for a head, and a file, see `heads`
+//   05  the list of a head, one for a record, and a file, see `heads`
 mod calls;
 mod escaping;
 mod frames;
+mod heads;
 mod lists;
 mod text;
 
@@ -25,6 +28,8 @@ fn show_case(bytes: &[u8], count: usize) {
         1 => lists::show(&s[1..]),
         2 => frames::show(&s[1..]),
         3 => escaping::show(&s[1..]),
+        4 => heads::show_head(&s[1..]),
+        5 => heads::show_body(&s[1..]),
         _ => {}
     }
 }

@@ -1,14 +1,19 @@
 // The bytes of a case of writing: a record's fields in the order of `Record` but for its entries, each with the high byte first, a flag as a
 // byte, so that a header has 46 bytes; then the size of the buffer, the number of zeros that are the source, how many entries are given, these,
-// of 16 bytes each (the others are zero), and, where there are no zeros, the source.
+// of 16 bytes each (the others are zero), and, where there are no zeros, the source. And those of a head: its flags in eight bytes, and four numbers.
 use bpg_format::Entry;
 use bpg_format::Header;
 use bpg_format::MAX_ENTRIES;
 use bpg_format::Range;
 use bpg_format::Record;
 use bpg_format::zero_entry;
+use bpg_read_head::flags::Flags;
+use bpg_reader::CodedHead;
 ghost use Prim.Native.Nat.{_≤_};
 ghost use Rattle.bpg_format.specs.Limits.{maxEntries};
+
+// How many bytes a head has.
+pub(crate) const HEAD: usize = 24;
 
 const SIZE: usize = 127;
 
@@ -142,6 +147,26 @@ pub(crate) fn record(s: &[u8]) -> Record {
         frame_period_den: two_bytes(s, 25),
         headers: [header(s, 27), header(s, 73)],
         data: range(s, 119),
+    }
+}
+
+pub(crate) fn head(s: &[u8]) -> CodedHead {
+    let flags = Flags {
+        pixel_format: byte(s, 0),
+        alpha1_flag: flag(s, 1),
+        bit_depth_minus_8: byte(s, 2),
+        color_space: byte(s, 3),
+        extension_present_flag: flag(s, 4),
+        alpha2_flag: flag(s, 5),
+        limited_range_flag: flag(s, 6),
+        animation_flag: flag(s, 7),
+    };
+    CodedHead {
+        flags,
+        picture_width: four_bytes(s, 8),
+        picture_height: four_bytes(s, 12),
+        data_length: four_bytes(s, 16),
+        extension_length: four_bytes(s, 20),
     }
 }
 

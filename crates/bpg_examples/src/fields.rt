@@ -24,7 +24,7 @@ fn show_next_flag(flag: bool) {
     show_flag(b",", flag);
 }
 
-fn show_range(label: &[u8], range: Range) {
+pub(crate) fn show_range(label: &[u8], range: Range) {
     text::show_number(label, range.start as u64);
     text::show_number(b"+", range.length as u64);
 }

@@ -5,10 +5,12 @@
 //   00 to 05  a number code, see `numbers`       07  writing a record, see `case`
 //   06        reading a file, and its parts      08  canonicalizing a file
 //                                                09  the entries of a file, by the cursor
+//   0a        a file: its head                   0b  a head, see `case`, and a file: the body
 mod canonical;
 mod case;
 mod cursor;
 mod fields;
+mod heads;
 mod hex;
 mod numbers;
 mod parts;
@@ -30,6 +32,8 @@ fn show_case(bytes: &[u8], count: usize) {
         7 => writing::show(&s[1..]),
         8 => canonical::show(&s[1..]),
         9 => cursor::show(&s[1..]),
+        10 => heads::show_head(&s[1..]),
+        11 => heads::show_body(&s[1..]),
         _ => {}
     }
 }

@@ -1,9 +1,9 @@
--- `text::show_list` meets its contract.
+-- `heads::show_list` meets its contract.
 use Prim.Native.Nat.{_≤_, _-_}
 use lib.ListN.{length}
 use borrow.Author.Needs.{needs}
-use Rattle.bpg_head_examples.proofs.text.show_list.Statement.{statement}
-use Rattle.bpg_head_examples.proofs.text.show_list.Tie as tie
+use Rattle.bpg_examples.proofs.heads.show_list.Statement.{statement}
+use Rattle.bpg_examples.proofs.heads.show_list.Tie as tie
 
 abbrev Inv-loop : tie.InvT-loop
 Inv-loop list i₀ t3 i = i ≤ length list
