@@ -41,7 +41,7 @@ sizes-advance =
     let e = expGolomb-advances in
     sequence-advances e λ _. sequence-advances e λ _. sequence-advances e λ _. sequence-advances e λ _. e
 
-optional-advances : {A : Type 0} {c : Codec Bool A} (b : Bool) (e : A) → Advances c → Advances (optional b c e)
+pub optional-advances : {A : Type 0} {c : Codec Bool A} (b : Bool) (e : A) → Advances c → Advances (optional b c e)
 optional-advances b e h = select-advances b h (absent-advances e)
 
 pcm-advances : Advances pcmFields

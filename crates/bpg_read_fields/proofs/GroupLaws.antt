@@ -12,7 +12,7 @@ use borrow.Author.Tests.{eqb-false, ne-eqb, lt-leb, le-ltb}
 use Rattle.bpg_codec.specs.Select.{select}
 use Rattle.bpg_codec.proofs.Select.{is-false, and-left, and-right}
 use Rattle.bpg_format.proofs.WriteLaws.{or-test}
-use Rattle.bpg_read_fields.specs.Table.{gates, afterGroup, noValues, valuesFrom}
+use Rattle.bpg_read_fields.specs.Table.{widths, gates, afterGroup, noValues, valuesFrom}
 use Rattle.bpg_read_fields.proofs.LoopLaws.{all-absent}
 
 -- ---- rules of the table's rows, each by one test that antt computes
@@ -31,6 +31,9 @@ gate k = getD gates k 0
 
 pub gate-small : (k : ℕ) → k < 25 → gate k < 26
 gate-small k h = ltb→lt _ _ (below 25 (λ (k : ℕ). ltb (gate k) 26) tt k h)
+
+pub width-small : (k : ℕ) → k < 25 → getD widths k 0 ≤ 8
+width-small k h = leb→le _ _ (below 25 (λ (k : ℕ). leb (getD widths k 0) 8) tt k h)
 
 first-zero : (k : ℕ) → k < 25 → getD noValues k 0 ≡ 0
 first-zero k h = eqb→eq _ _ (below 25 (λ (k : ℕ). eqb (getD noValues k 0) 0) tt k h)

@@ -2,7 +2,7 @@
 use mathlib.Core.Path.{_≡_, refl, sym, ap, _∙_}
 use mathlib.Core.Bool.{Bool, true, false, true≢false}
 use mathlib.Core.List.{List, [], _∷_, _++_}
-use Prim.Native.Nat.{ℕ, suc, min, _-_, _%_, _^_, _<_}
+use Prim.Native.Nat.{ℕ, suc, min, _-_, _%_, _^_, _≤_, _<_}
 use native.Mathlib.Nat.{mod-eq-of-lt}
 use native.Mathlib.Omega.{arith}
 use lib.Dec.{eqb}
@@ -14,8 +14,10 @@ use Rattle.bpg_codec.specs.Bits.{Bit}
 use Rattle.bpg_codec.specs.Parts.{absent, fixed}
 use Rattle.bpg_codec.proofs.Select.{select-true, select-false}
 use Rattle.bpg_codec.proofs.Outcome.{bind-assoc, bind-cong, unlocate}
+use Rattle.bpg_codec.proofs.Positions.{select-advances}
 use Rattle.bpg_codec.proofs.Tokens.{all-bits}
 use Rattle.bpg_bits.specs.BitNumbers.{unsigned, expGolomb}
+use Rattle.bpg_bits.proofs.Advances.{unsigned-advances, expGolomb-advances}
 use Rattle.bpg_bits.proofs.BitNumberLaws.{unsigned-lawful}
 use Rattle.bpg_format.specs.declared.record.Header.{Header}
 use Rattle.bpg_format.specs.FileCodec.{oneBit, optional, SizeFields, sizeFields, PcmFields, pcmFields, noPcm, spsFields, noSps, headerFrom, headerFields}
@@ -23,7 +25,7 @@ use Rattle.bpg_read_fields.specs.declared.all_fields.Fields.{Fields}
 use Rattle.bpg_read_fields.specs.declared.values.Values.{Values}
 use Rattle.bpg_read_fields.specs.AllFields.{missingFields, fieldsAnswer}
 use Rattle.bpg_read_fields.specs.Table.{widths, gates, noValues, fieldCodec, fieldAt, valuesFrom, valuesAnswer, headerOf}
-use Rattle.bpg_read_fields.proofs.AllFieldLaws.{sizes-at, pcm-at, sps-at, flag-at, restSequence, rest-at, fields-at}
+use Rattle.bpg_read_fields.proofs.AllFieldLaws.{optional-advances, sizes-at, pcm-at, sps-at, flag-at, restSequence, rest-at, fields-at}
 use Rattle.bpg_read_fields.proofs.LoopLaws.{values-none, values-suc, field-absent}
 use Rattle.bpg_read_fields.proofs.FlagLaws.{flags, flags-cons, flags-none}
 
@@ -51,6 +53,12 @@ module _ (bits : List Bool) where
 
     pub field-bits : {b : Bool} → b ≡ true → eqb w 0 ≡ false → decodeAt bits (fieldCodec b w) 0 p ≡ U (min w 8) p
     field-bits g e = rw (select-true {X = Codec Bool ℕ} here (absent 0) g, select-false {X = Codec Bool ℕ} expGolomb (unsigned (min w 8)) e)
+
+  -- the position after a field is not before it
+  pub field-later : (p w : ℕ) (x : ℕ × ℕ) → decodeAt bits (fieldCodec true w) 0 p ≡ ok x → p ≤ x .1
+  field-later p w x e =
+      unlocate (fieldCodec true w .decode 0 p (drop p bits)) e λ r e1.
+      optional-advances true 0 (select-advances (eqb w 0) expGolomb-advances (unsigned-advances (min w 8))) .advances 0 p (drop p bits) (decoded (x .0) (x .1) r) e1 .forward
 
   -- the header that the last n fields give, after these values
   abbrev pub made : (n : ℕ) (values : List ℕ) (p : ℕ) → Outcome (Header × ℕ)

@@ -2,6 +2,8 @@
 use crate::field;
 use bpg_bits::bits::BitNumber;
 use bpg_bytes::BitPos;
+use bpg_bytes::arithmetic::remaining;
+use bpg_next_bits::next_bits;
 ghost use mathlib.Core.Path.{_≡_};
 ghost use Rattle.bpg_bits.specs.BitNumbers.{regionBits};
 ghost use Rattle.bpg_read_fields.specs.Table.{valuesAnswer, valuesFrom, noValues, afterGroup};
@@ -36,6 +38,9 @@ pub(crate) fn read(region: &[u8], at: BitPos) -> Values
     let mut values = [0u32; 26];
     values[25] = 1;
     let mut next = at.0;
+    let first = next_bits(region, at);
+    let mut word = first.word;
+    let mut left = first.count;
     let mut k: usize = 0;
     while k < 25 {
         let gate = gates[k] as usize;
@@ -43,7 +48,7 @@ pub(crate) fn read(region: &[u8], at: BitPos) -> Values
             k = after_group(gate);
             continue;
         }
-        match field::read(region, BitPos(next), widths[k]) {
+        match field::read(region, BitPos(next), widths[k], word, left) {
             BitNumber::Missing => {
                 return Values {
                     found: false,
@@ -53,7 +58,10 @@ pub(crate) fn read(region: &[u8], at: BitPos) -> Values
             }
             BitNumber::Value(value, after) => {
                 values[k] = value;
+                let size = after.0 - next;
                 next = after.0;
+                word = word << (size % 64);
+                left = remaining(left, size);
             }
         }
         k += 1;

@@ -2,7 +2,8 @@
 use mathlib.Core.Path.{_≡_, refl, sym, ap, _∙_}
 use mathlib.Core.Bool.{Bool, true}
 use mathlib.Core.List.{List}
-use Prim.Native.Nat.{ℕ, _+_, _-_, _≤_, _<_}
+use Prim.Native.Nat.{ℕ, _+_, _-_, _*_, _^_, _≤_, _<_}
+use native.Mathlib.Nat.{mod-lt}
 use native.Mathlib.Omega.{arith}
 use lib.ListN.{getD, set}
 use borrow.Author.Needs.{needs}
@@ -10,18 +11,41 @@ use Rattle.bpg_codec.specs.Outcome.{Outcome, _>>=_}
 use Rattle.bpg_codec.specs.Codec.{decodeAt}
 use Rattle.bpg_bits.specs.BitNumbers.{regionBits}
 use Rattle.bpg_bits.proofs.Items.{value-outcome}
+use Rattle.bpg_next_bits.specs.NextBits.{InWord}
+use Rattle.bpg_next_bits.proofs.NextBitsLaws.{in-word-after}
 use Rattle.bpg_read_fields.specs.Table.{widths, gates, noValues, fieldCodec, valuesFrom, valuesAnswer}
 use Rattle.bpg_read_fields.proofs.LoopLaws.{values-end, values-present, missing-ends}
-use Rattle.bpg_read_fields.proofs.GroupLaws.{gate-small, forward, Before, before-next, before-end, group-absent}
+use Rattle.bpg_read_fields.proofs.TableLaws.{field-later}
+use Rattle.bpg_read_fields.proofs.GroupLaws.{gate-small, width-small, forward, Before, before-next, before-end, group-absent}
 use Rattle.bpg_read_fields.proofs.values.read.Statement.{statement}
 use Rattle.bpg_read_fields.proofs.values.read.Tie as tie
 
 abbrev Inv-loop : tie.InvT-loop
-Inv-loop region widths gates values₀ next₀ k₀ values next k =
-    (k ≤ 25) × Before k values × (valuesFrom (regionBits region) (25 - k) values next ≡ valuesFrom (regionBits region) 25 noValues next₀)
+Inv-loop region widths gates values₀ next₀ word₀ left₀ k₀ values next word left k =
+    (k ≤ 25) × Before k values × InWord region next word left × (valuesFrom (regionBits region) (25 - k) values next ≡ valuesFrom (regionBits region) 25 noValues next₀)
 
 abbrev μ-loop : tie.MeasureT-loop
-μ-loop region widths gates values₀ next₀ k₀ values next k = 25 - k
+μ-loop region widths gates values₀ next₀ word₀ left₀ k₀ values next word left k = 25 - k
+
+-- facts on numbers, by themselves: too many others are in reach where they are asked for
+some : 0 < 64
+some = omega arith
+
+module _ (k : ℕ) (h : k < 25) where
+  one-more : k + 1 ≤ 25
+  one-more = omega arith
+
+  one-fits : k + 1 < 2 ^ 64
+  one-fits = omega arith
+
+  few-bytes : k * 4 < 2 ^ 64
+  few-bytes = omega arith
+
+  inside : k < 26
+  inside = omega arith
+
+  fewer : 25 - (k + 1) < 25 - k
+  fewer = omega arith
 
 -- a field was read, or it is missing
 module _ (r : tie.After-read Inv-loop μ-loop) where
@@ -29,7 +53,7 @@ module _ (r : tie.After-read Inv-loop μ-loop) where
   turn = r .before .before .before .before .before
 
   abbrev start : tie.Start Inv-loop μ-loop
-  start = turn .before .before .before .before
+  start = turn .before .before .before .before .before
 
   abbrev bits : List Bool
   bits = regionBits (start .args .region .now)
@@ -47,10 +71,10 @@ module _ (r : tie.After-read Inv-loop μ-loop) where
   present = r .before .before .if1 .left
 
   whole : valuesFrom bits 25 noValues (start .args .at .0) ≡ (field >>= rest)
-  whole = sym (turn .loop .inv .2) ∙ values-present bits (turn .loop .values) (turn .loop .next) (turn .loop .k) more present
+  whole = sym (turn .loop .inv .3) ∙ values-present bits (turn .loop .values) (turn .loop .next) (turn .loop .k) more present
 
 loop-holds : tie.Need-loop-holds Inv-loop μ-loop
-loop-holds c = (omega arith, (refl, (λ i h. refl), λ e. omega arith), refl)
+loop-holds c = (omega arith, (refl, (λ i h. refl), λ e. omega arith), c .next-bits .ensures, refl)
 
 cast-gate : tie.Need-cast-gate Inv-loop μ-loop
 cast-gate c = record { fits = omega (arith, gate-small (c .before .before .loop .k) (c .before .loop-test .taken)) }
@@ -69,8 +93,21 @@ loop-again c =
     let t = c .before .before .before in
     let l = t .before .loop in
     let h = t .loop-test .taken in
-    let whole = sym (group-absent (l .k) (l .values) h (l .inv .1) (c .before .if1 .taken) _ (l .next)) ∙ l .inv .2 in
-    rw (c .after-group .ensures) (forward (l .k) h .1, before-end (l .k) (l .values) h (l .inv .1), whole)
+    let whole = sym (group-absent (l .k) (l .values) h (l .inv .1) (c .before .if1 .taken) _ (l .next)) ∙ l .inv .3 in
+    rw (c .after-group .ensures) (forward (l .k) h .1, before-end (l .k) (l .values) h (l .inv .1), l .inv .2, whole)
+
+read-requires : tie.Need-read-requires Inv-loop μ-loop
+read-requires c κs = (c .before .before .before .before .loop .inv .2, width-small (c .before .before .before .before .loop .k) (c .before .before .before .loop-test .taken))
+
+sub-size : tie.Need-sub-size Inv-loop μ-loop
+sub-size c =
+    let v = c .before .before in
+    let r = v .before .before in
+    field-later (bits r) (turn r .loop .next) (getD widths (turn r .loop .k) 0) _ (sym (value-outcome {m = field r} (r .read .result) (r .read .ensures) _ _ (v .value .given .1)))
+
+-- the field that was read, once the next bits are those after it
+abbrev came : tie.After-remaining Inv-loop μ-loop → tie.After-read Inv-loop μ-loop
+came c = c .before .before .before .before .before
 
 returns : tie.Need-returns Inv-loop μ-loop
 returns c =
@@ -79,15 +116,21 @@ returns c =
 
 loop-again-2 : tie.Need-loop-again-2 Inv-loop μ-loop
 loop-again-2 c =
-    let r = c .before .before .before in
+    let v = c .before .before .before in
+    let r = came c in
     let l = turn r .loop in
-    let e = value-outcome {m = field r} (r .read .result) (r .read .ensures) _ _ (c .before .value .given .1) in
-    (omega arith, before-next (l .k) (l .values) (more r) (l .inv .1) _ (present r), sym (whole r ∙ ap (λ (o : Outcome (ℕ × ℕ)). o >>= rest r) (sym e)))
+    let e = value-outcome {m = field r} (r .read .result) (r .read .ensures) _ _ (v .value .given .1) in
+    let later = field-later (bits r) (l .next) (getD widths (l .k) 0) _ (sym e) in (
+      one-more (l .k) (more r),
+      before-next (l .k) (l .values) (more r) (l .inv .1) _ (present r),
+      in-word-after (start r .args .region .now) (l .next) (l .word) (l .left) (l .inv .2) _ _ later (c .remaining .ensures),
+      sym (whole r ∙ ap (λ (o : Outcome (ℕ × ℕ)). o >>= rest r) (sym e)),
+    )
 
 returns-2 : tie.Need-returns-2 Inv-loop μ-loop
 returns-2 c =
     let l = c .before .loop in
-    ap valuesAnswer (sym (values-end _ (l .k) (l .values) (l .next) (c .loop-test .left)) ∙ l .inv .2)
+    ap valuesAnswer (sym (values-end _ (l .k) (l .values) (l .next) (c .loop-test .left)) ∙ l .inv .3)
 
 pub read-spec : {M : Type 1} → statement M
 read-spec =
@@ -96,22 +139,26 @@ read-spec =
     Inv-loop
     μ-loop
     (λ c. search needs)
+    (λ c κs. search needs)
     loop-holds
     (λ c. c .loop-test .taken)
     cast-gate
     mul-if1
     (λ c. gate-small (c .before .before .loop .k) (c .before .loop-test .taken))
-    (λ c. search needs)
+    (λ c κs. search needs)
     loop-less
     loop-again
     (λ c. c .before .before .loop-test .taken)
-    (λ c κs. search needs)
-    (λ c. search needs)
+    read-requires
+    (λ c. c .match .keys1)
     returns
-    (λ c. search needs)
-    (λ c. search needs)
-    (λ c. search needs)
-    (λ c. search needs)
-    (λ c. search needs)
+    (λ c. c .match .keys2)
+    (λ c. record { fits = few-bytes _ (more (c .before .before .before)) })
+    (λ c. inside _ (more (c .before .before .before)))
+    sub-size
+    (λ c. mod-lt _ some)
+    (λ c κs. search needs)
+    (λ c. record { fits = one-fits _ (more (came c)) })
+    (λ c. fewer _ (more (came c)))
     loop-again-2
     returns-2)

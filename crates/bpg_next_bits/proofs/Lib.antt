@@ -1,0 +1,4 @@
+-- Laws of the next bits.
+pub mod WordLaws
+pub mod NextBitsLaws
+pub mod FieldLaws

@@ -1,0 +1,2 @@
+-- The next bits of a region, in a word.
+pub mod NextBits
