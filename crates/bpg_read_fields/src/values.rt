@@ -27,7 +27,8 @@ fn after_group(gate: usize) -> usize
 }
 
 // Reads them from `at` on. Field k has widths[k] bits (0: ue(v)), and is there if the value at gates[k] is 1;
-// where it is not, its group is passed over at once, since the values of its fields are 0 from the start.
+// where it is not, its group is passed over at once, since the values of its fields are 0 from the start. `left` of the bits from `next` on stand
+// in the high bits of `word`: after a field of 64 bits or more, none.
 pub(crate) fn read(region: &[u8], at: BitPos) -> Values
     ensures { λ r. ⌜ r ≡ valuesAnswer (valuesFrom (regionBits (now (region .entry))) 25 noValues (at .0)) ⌝ }
 {
