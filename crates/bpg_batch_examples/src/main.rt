@@ -3,6 +3,8 @@
 //
 // A case is a line of hex digits: how long the list of statuses is, and that of offsets, how many lengths there are, the lengths of four bytes,
 // high byte first, and the buffer. `#` begins a comment; other characters are skipped.
+#![tactic(auto)]
+
 mod cases;
 mod text;
 

@@ -9,7 +9,7 @@ use bpg_bytes::arithmetic::{least, remaining, wide};
 use bpg_bytes::{BitPos, byte_of};
 
 // A number and the position after it, or that the region does not hold one (for ue(v): also that z is above 31).
-#[derive(Drop)]
+#[derive(Clone, Copy)]
 pub enum BitNumber {
     Value(u32, BitPos),
     Missing,

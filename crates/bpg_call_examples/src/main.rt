@@ -8,6 +8,8 @@
 //   03  bytes with or without emulation prevention, see `escaping`
 //   04  a list for a head, and a file, see `heads`
 //   05  the list of a head, one for a record, and a file, see `heads`
+#![tactic(auto)]
+
 mod calls;
 mod escaping;
 mod frames;

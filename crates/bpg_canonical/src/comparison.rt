@@ -9,7 +9,7 @@ use bpg_format::Written;
 
 // What canonicalizing answers for each of two files, and whether they show the same picture: false where one is refused, or its
 // buffer too small, even if the pictures are the same.
-#[derive(Drop)]
+#[derive(Clone, Copy)]
 pub struct Comparison {
     pub first: Written,
     pub second: Written,

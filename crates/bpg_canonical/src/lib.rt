@@ -1,4 +1,6 @@
 // The canonical form of a BPG file (document 01: tidying): one form for each picture.
+#![tactic(auto)]
+
 mod comparison;
 mod file;
 

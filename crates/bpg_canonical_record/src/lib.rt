@@ -1,4 +1,6 @@
 // A record with the canonical choices, over the same source.
+#![tactic(auto)]
+
 ghost use Rattle.std.specs.Prelude.{◌≡◌, min};
 ghost use Rattle.bpg_format.specs.Limits.{max_entries};
 ghost use Rattle.bpg_canonical_record.specs.Records.{loop_size, canonical_entry, canonical_header, canonical_entries, canonical_flags, canonical_record};

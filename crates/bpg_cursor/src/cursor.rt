@@ -8,7 +8,7 @@ use crate::step::{Step, step_at};
 use bpg_bytes::BytePos;
 use bpg_parts::{EntryAt, block_bounds};
 
-#[derive(Drop)]
+#[derive(Clone, Copy)]
 pub struct Cursor<'a> {
     pub region: &'a [u8],
     pub next: BytePos,

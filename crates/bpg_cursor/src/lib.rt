@@ -1,4 +1,6 @@
 // A cursor over the entries of a file (document 01: the walker).
+#![tactic(auto)]
+
 mod cursor;
 mod region;
 mod step;

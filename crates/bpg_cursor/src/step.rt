@@ -7,7 +7,7 @@ use bpg_parts::EntryAt;
 use bpg_read_entries::entry;
 
 // What a cursor yields, and the offset at which it then stands.
-#[derive(Drop)]
+#[derive(Clone, Copy)]
 pub struct Step {
     pub answer: EntryAt,
     pub next: BytePos,

@@ -1,4 +1,6 @@
 // Default colour from W (request 7/13): R·W/M to the nearest, where a file with the W plane has no colour profile.
+#![tactic(auto)]
+
 mod call;
 mod plane;
 

@@ -6,6 +6,8 @@
 //   06        reading a file, and its parts      08  canonicalizing a file
 //                                                09  the entries of a file, by the cursor
 //   0a        a file: its head                   0b  a head, see `case`, and a file: the body
+#![tactic(auto)]
+
 mod canonical;
 mod case;
 mod cursor;

@@ -1,4 +1,6 @@
 // The library for C and Rust: numbers and slices alone. include/bpg.h declares these functions for C.
+#![tactic(auto)]
+
 mod batch;
 mod frames;
 mod heads;

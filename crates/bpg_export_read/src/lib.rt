@@ -1,5 +1,7 @@
 // Reading for C and Rust, in one call or two, without the rest of the library: `bpg_read` and `bpg_body` of `bpg_export` are these two calls, and an
 // edit of them is tried here in a fifth of the time.
+#![tactic(auto)]
+
 ghost use Rattle.std.specs.Prelude.{◌≡◌};
 ghost use Rattle.bpg_reader.specs.Calls.{either_reading};
 ghost use Rattle.bpg_export_read.specs.Calls.{listed_answer, listed_numbers, read_answer, read_numbers, body_answer, body_numbers};

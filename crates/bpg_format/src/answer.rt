@@ -4,7 +4,7 @@ ghost use Rattle.bpg_format.specs.Zero.{refused_reading, refused_written};
 
 use crate::record::{Record, zero_record};
 
-#[derive(Drop)]
+#[derive(Clone, Copy)]
 pub struct Reading {
     pub status: u8,
     pub offset: usize,
@@ -13,7 +13,7 @@ pub struct Reading {
     pub record: Record,
 }
 
-#[derive(Drop)]
+#[derive(Clone, Copy)]
 pub struct Written {
     pub status: u8,
     pub offset: usize,

@@ -1,5 +1,7 @@
 // The record of a BPG file, the answers of the calls, and their zero values. specs/ has the format: what a file, a record and a
 // picture are, and what each call answers.
+#![tactic(auto)]
+
 mod answer;
 mod data;
 mod record;

@@ -8,14 +8,14 @@ pub const MAX_ENTRIES: usize = 64;
 pub const MAX_FILE: usize = 16_777_216;
 
 // Bytes of the file, or of the source that a record is written from.
-#[derive(Drop)]
+#[derive(Clone, Copy)]
 pub struct Range {
     pub start: u32,
     pub length: u32,
 }
 
 // An entry of the extension block: its tag, where its payload lies, and where its tag begins. The writer pays no heed to the last.
-#[derive(Drop)]
+#[derive(Clone, Copy)]
 pub struct Entry {
     pub tag: u32,
     pub payload: Range,
@@ -23,7 +23,7 @@ pub struct Entry {
 }
 
 // A HEVC header. Fields that a flag leaves out are zero.
-#[derive(Drop)]
+#[derive(Clone, Copy)]
 pub struct Header {
     pub log2_min_luma_coding_block_size_minus3: u32,
     pub log2_diff_max_min_luma_coding_block_size: u32,
@@ -46,7 +46,7 @@ pub struct Header {
     pub range_flags: [bool; 9],
 }
 
-#[derive(Drop)]
+#[derive(Clone, Copy)]
 pub struct Record {
     pub pixel_format: u8,
     pub alpha1_flag: bool,

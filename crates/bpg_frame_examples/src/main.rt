@@ -3,6 +3,8 @@
 // A case is a line of hex digits: a byte that says what to run, a size, high byte first, and the bytes to run it on.
 //   00  frames, with a list of that many durations; then frame_count
 //   01  unescape, 02 escape, with a buffer of that many bytes
+#![tactic(auto)]
+
 mod escaping;
 mod frames;
 mod hex;

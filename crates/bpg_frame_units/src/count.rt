@@ -9,7 +9,7 @@ use bpg_bytes::BytePos;
 use bpg_nal_scan::scan_at;
 
 // The answer of the calls. Status 0 is success, else the refusal number; `count` is how many frames there are, 0 if refused.
-#[derive(Drop)]
+#[derive(Clone, Copy)]
 pub struct Frames {
     pub status: u8,
     pub offset: usize,

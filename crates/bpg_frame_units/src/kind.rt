@@ -8,7 +8,7 @@ use bpg_bytes::byte_at;
 use bpg_nal_units::{NalHeader, header};
 
 // A refusal's status, 0 for none; whether a frame starts; how many durations are set, and the last.
-#[derive(Drop)]
+#[derive(Clone, Copy)]
 pub struct Verdict {
     pub status: u8,
     pub starts: bool,

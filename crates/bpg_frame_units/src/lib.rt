@@ -1,4 +1,6 @@
 // What NAL units say of frames: each one judged, and the frames of data counted.
+#![tactic(auto)]
+
 pub mod count;
 mod judge;
 pub mod kind;

@@ -7,7 +7,7 @@ use crate::kind::Verdict;
 use bpg_bytes::BytePos;
 
 // A duration, 0 for none, and where the SEI unit that set it starts.
-#[derive(Drop)]
+#[derive(Clone, Copy)]
 pub struct Waiting {
     pub duration: u16,
     pub unit: BytePos,

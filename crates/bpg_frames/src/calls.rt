@@ -10,7 +10,7 @@ use bpg_format::has_alpha;
 use bpg_frame_units::count::{Frames, count_frames, refused};
 
 // The answer for a file before anything is stored; and on success where its data starts, and whether there is alpha.
-#[derive(Drop)]
+#[derive(Clone, Copy)]
 pub struct Survey {
     pub status: u8,
     pub offset: usize,

@@ -1,4 +1,6 @@
 // The frames of a file's HEVC data, and for how many periods each one is shown.
+#![tactic(auto)]
+
 mod calls;
 mod store;
 

@@ -1,4 +1,6 @@
 // Reading on from a head that the caller has (request 9/13): what is refused before the body of a file.
+#![tactic(auto)]
+
 ghost use Rattle.std.specs.Prelude.{◌≡◌};
 ghost use Rattle.bpg_head_rules.specs.Calls.{fields_of};
 ghost use Rattle.bpg_given_head.specs.BeforeBody.{is_own, before_body};
@@ -9,7 +11,7 @@ use bpg_head_call::call::{coded, is_head};
 use bpg_read_head::head::Head;
 
 // Where reading stops, or status 0.
-#[derive(Drop)]
+#[derive(Clone, Copy)]
 pub struct Stop {
     pub status: u8,
     pub offset: BytePos,

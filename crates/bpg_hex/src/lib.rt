@@ -1,4 +1,6 @@
 // Hex digits: lines of them, read character by character into a buffer of bytes, and the digits of a byte.
+#![tactic(auto)]
+
 ghost use Rattle.std.specs.Prelude.{◌≡◌, ◌≤◌, ◌<◌, length as count};
 ghost use Rattle.bpg_hex.specs.HexLines.{digit_value, line_at, line_after, bytes_after, digit_of, digits_of};
 
@@ -6,7 +8,7 @@ ghost use Rattle.bpg_hex.specs.HexLines.{digit_value, line_at, line_after, bytes
 const COMMENT: u8 = 17;
 
 // How far a line has been read: how many bytes, and `half`, a digit that waits for its second, or 16.
-#[derive(Drop)]
+#[derive(Clone, Copy)]
 pub struct HexLine {
     pub count: usize,
     half: u8,

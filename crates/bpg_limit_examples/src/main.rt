@@ -3,6 +3,8 @@
 //
 // Such a file is longer than the stack. None is stored: `read` is called in one place, before anything is written, and there the
 // compiler sees that each byte to be looked at is 0.
+#![tactic(auto)]
+
 ghost use Rattle.std.specs.Prelude.{◌≡◌, length as count};
 
 use bpg_format::Reading;

@@ -1,4 +1,6 @@
 // Emulation prevention undone and redone. Stretches between emulation prevention bytes are copied whole.
+#![tactic(auto)]
+
 mod escaping;
 mod rules;
 mod unescaping;

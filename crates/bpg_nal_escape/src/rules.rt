@@ -6,7 +6,7 @@ use bpg_bytes::{BytePos, byte_at};
 use bpg_nal_emulation::pattern;
 
 // Whether a unit keeps the rules; and if so, how many bytes it has without its emulation prevention bytes.
-#[derive(Drop)]
+#[derive(Clone, Copy)]
 pub struct Checked {
     pub kept: bool,
     pub count: usize,

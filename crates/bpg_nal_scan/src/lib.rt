@@ -1,4 +1,6 @@
 // NAL units cut off and judged by the emulation rules.
+#![tactic(auto)]
+
 mod scan;
 
 pub use scan::{Scan, scan_at};

@@ -8,7 +8,7 @@ use bpg_nal_emulation::pattern;
 use bpg_nal_units::{Cut, trimmed};
 
 // Whether a unit keeps the rules; and if so, where it ends and where the start code after it stands.
-#[derive(Drop)]
+#[derive(Clone, Copy)]
 pub struct Scan {
     pub kept: bool,
     pub cut: Cut,

@@ -8,7 +8,7 @@ use bpg_bytes::arithmetic::least;
 
 // A unit is the bytes from its start up to `end`; zero bytes come between it and the start code, which stands at `code`. After the
 // last unit `code` is the end of the region.
-#[derive(Drop)]
+#[derive(Clone, Copy)]
 pub struct Cut {
     pub end: BytePos,
     pub code: BytePos,

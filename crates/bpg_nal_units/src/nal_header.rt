@@ -2,7 +2,7 @@
 ghost use Rattle.std.specs.Prelude.{◌≡◌};
 ghost use Rattle.bpg_nal_units.specs.Headers.{header_of};
 
-#[derive(Drop)]
+#[derive(Clone, Copy)]
 pub struct NalHeader {
     pub forbidden_zero_bit: bool,
     pub nal_unit_type: u8,

@@ -1,4 +1,6 @@
 // The next bits of a region, in a word: a short header is then read from a register, where looking each field up in its bytes takes longer.
+#![tactic(auto)]
+
 mod word;
 
 ghost use Rattle.bpg_next_bits.specs.NextBits.{InWord};
@@ -8,7 +10,7 @@ use bpg_bytes::arithmetic::{least, remaining};
 use bpg_bytes::{BitPos, byte_of};
 
 // So many bits, at most 63, in the high bits of a word.
-#[derive(Drop)]
+#[derive(Clone, Copy)]
 pub struct NextBits {
     pub word: u64,
     pub count: usize,

@@ -3,7 +3,7 @@ ghost use Rattle.std.specs.Prelude.{◌≡◌};
 ghost use Rattle.bpg_partition.specs.Partitions.{refused_partition};
 
 // Status and offset as `read` answers them, and five counts of bytes, which add up to the file's length; zeros where the file is refused.
-#[derive(Drop)]
+#[derive(Clone, Copy)]
 pub struct Partition {
     pub status: u8,
     pub offset: usize,

@@ -1,4 +1,6 @@
 // The partition of a file (request 13/13): how many bytes are its head, entry heads, payloads, HEVC headers and data.
+#![tactic(auto)]
+
 mod answer;
 mod call;
 

@@ -1,6 +1,8 @@
 // Counts the parts of the files of standard input, and prints a line for each: status and offset, and the five counts.
 //
 // A case is a line of hex digits: the byte 00, and the file. `#` begins a comment; other characters are skipped.
+#![tactic(auto)]
+
 use bpg_hex::HexLine;
 
 // A label and a number.

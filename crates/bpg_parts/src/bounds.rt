@@ -6,7 +6,7 @@ use bpg_bytes::BytePos;
 use bpg_read_survey::survey;
 
 // The offsets of the first entry and after the last.
-#[derive(Drop)]
+#[derive(Clone, Copy)]
 pub struct BlockBounds {
     pub start: BytePos,
     pub end: BytePos,

@@ -1,4 +1,6 @@
 // The parts of a file that its record names, and where its extension block lies.
+#![tactic(auto)]
+
 mod bounds;
 mod parts;
 

@@ -8,7 +8,7 @@ use bpg_format::{Entry, zero_entry};
 use bpg_reader::read;
 
 // An entry of the extension block, or that there is none of that index.
-#[derive(Drop)]
+#[derive(Clone, Copy)]
 pub enum EntryAt {
     Found(Entry),
     Absent,

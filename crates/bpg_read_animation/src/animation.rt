@@ -9,7 +9,7 @@ use bpg_ue7::ue7;
 use bpg_ue7::ue7::Number;
 
 // Status 0 and the numbers; or a refusal and zeros.
-#[derive(Drop)]
+#[derive(Clone, Copy)]
 pub struct Animation {
     pub status: u8,
     pub offset: BytePos,

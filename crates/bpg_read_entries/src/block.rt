@@ -10,7 +10,7 @@ use bpg_read_animation::animation::Animation;
 
 // Status 0, how many entries there are, whether one has tag 5, and what it says; or a refusal and zeros. The entries are stored once the whole file
 // is accepted: an answer with room for all of them would be cleared, and copied wherever it is handed on.
-#[derive(Drop)]
+#[derive(Clone, Copy)]
 pub struct Block {
     pub status: u8,
     pub offset: BytePos,

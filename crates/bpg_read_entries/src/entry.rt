@@ -12,7 +12,7 @@ use bpg_ue7::ue7;
 use bpg_ue7::ue7::Number;
 
 // Status 0, the entry, and the offset after it; or a refusal.
-#[derive(Drop)]
+#[derive(Clone, Copy)]
 pub struct EntryReading {
     pub status: u8,
     pub offset: BytePos,

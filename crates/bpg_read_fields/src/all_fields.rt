@@ -11,7 +11,7 @@ use bpg_bytes::BitPos;
 use bpg_format::{Header, zero_header};
 
 // The header and the position after its fields, or that one is missing.
-#[derive(Drop)]
+#[derive(Clone, Copy)]
 pub struct Fields {
     pub found: bool,
     pub header: Header,

@@ -10,7 +10,7 @@ use bpg_bytes::arithmetic::remaining;
 use bpg_next_bits::next_bits;
 
 // The values, after them a 1, and the position after the fields; or that one is missing.
-#[derive(Drop)]
+#[derive(Clone, Copy)]
 pub(crate) struct Values {
     pub(crate) found: bool,
     pub(crate) values: [u32; 26],

@@ -9,7 +9,7 @@ use bpg_bytes::BytePos;
 use bpg_format::color_space_allowed;
 
 // The fields of byte 4 and byte 5.
-#[derive(Drop)]
+#[derive(Clone, Copy)]
 pub struct Flags {
     pub pixel_format: u8,
     pub alpha1_flag: bool,
@@ -22,7 +22,7 @@ pub struct Flags {
 }
 
 // Status 0 and the flags; or a refusal and zeros.
-#[derive(Drop)]
+#[derive(Clone, Copy)]
 pub struct FlagsReading {
     pub status: u8,
     pub offset: BytePos,

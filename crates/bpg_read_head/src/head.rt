@@ -15,7 +15,7 @@ use bpg_ue7::ue7::Number;
 
 // Status 0 and the fields as coded, with the offsets of the two lengths and the offset after the head; or a refusal and zeros.
 // Without the extension flag the extension length is 0, and its offset is where the head ends.
-#[derive(Drop)]
+#[derive(Clone, Copy)]
 pub struct Head {
     pub status: u8,
     pub offset: BytePos,

@@ -7,7 +7,7 @@ use bpg_ue7::ue7;
 use bpg_ue7::ue7::Number;
 
 // Status 0, the two numbers and the offset after them; or a refusal and zeros.
-#[derive(Drop)]
+#[derive(Clone, Copy)]
 pub struct Size {
     pub status: u8,
     pub offset: BytePos,

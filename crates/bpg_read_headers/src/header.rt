@@ -12,7 +12,7 @@ use bpg_ue7::ue7;
 use bpg_ue7::ue7::Number;
 
 // Status 0, the header, and the offset after it; or a refusal and zeros.
-#[derive(Drop)]
+#[derive(Clone, Copy)]
 pub struct HeaderReading {
     pub status: u8,
     pub offset: BytePos,

@@ -9,7 +9,7 @@ use bpg_bytes::BytePos;
 use bpg_format::{Header, zero_header};
 
 // Status 0, the two headers (the alpha plane's is zero where there is none), and the offset after them; or a refusal and zeros.
-#[derive(Drop)]
+#[derive(Clone, Copy)]
 pub struct HeadersReading {
     pub status: u8,
     pub offset: BytePos,

@@ -12,7 +12,7 @@ use bpg_read_head::head::Head;
 
 // What the head call reads, whether or not the file is refused, and what follows it. Whether the file is refused, `rest.status` alone says: `head.status` is
 // the head's own.
-#[derive(Drop)]
+#[derive(Clone, Copy)]
 pub struct FileSurvey {
     pub head: Head,
     pub rest: RestSurvey,

@@ -1,4 +1,6 @@
 // Surveying a BPG file: all that reading finds but for the entries, or a refusal; from the start, or on from a head that the caller has.
+#![tactic(auto)]
+
 mod file;
 mod rest;
 

@@ -68,7 +68,7 @@ fn after_headers(file: &[u8], status: u8, offset: BytePos, next: BytePos) -> Sto
 }
 
 // Status 0, and what the parts of a body were read as but for the entries, which are stored last; or a refusal and zeros.
-#[derive(Drop)]
+#[derive(Clone, Copy)]
 pub struct RestSurvey {
     pub status: u8,
     pub offset: BytePos,

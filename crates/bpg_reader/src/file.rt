@@ -59,7 +59,7 @@ pub fn body(given: CodedHead, file: &[u8]) -> Reading
 }
 
 // Status 0, or a refusal and its offset.
-#[derive(Drop)]
+#[derive(Clone, Copy)]
 pub struct Verdict {
     pub status: u8,
     pub offset: usize,

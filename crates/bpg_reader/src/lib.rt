@@ -1,4 +1,6 @@
 // Reading a BPG file: the record that the syntax gives, or a refusal; all of it, or its head first.
+#![tactic(auto)]
+
 mod answer;
 mod file;
 

@@ -1,4 +1,6 @@
 // What the calls on samples judge before anything is written, and what they answer (request 7/13).
+#![tactic(auto)]
+
 mod answer;
 mod judgement;
 mod largest;

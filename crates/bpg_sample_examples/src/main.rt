@@ -5,6 +5,8 @@
 // samples of two bytes, high byte first. A call takes as many planes and buffers as it has; the others are empty.
 //   00  unpremultiply, 01 cmyk, 02 default_from_white, 03 ycgco, 04 limited_luma (whose depth is not looked at)
 // `#` begins a comment; other characters are skipped.
+#![tactic(auto)]
+
 mod calls;
 mod cases;
 mod text;

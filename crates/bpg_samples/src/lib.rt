@@ -1,4 +1,6 @@
 // Samples after decoding (request 7/13): the calls, under one name.
+#![tactic(auto)]
+
 pub use bpg_cmyk::cmyk;
 pub use bpg_default_from_white::default_from_white;
 pub use bpg_limited_luma::limited_luma;

@@ -4,6 +4,8 @@
 //   00  export of a file, 01 import of a run, with a buffer of that many bytes
 //   02  export of a file that is made here: a payload of that many bytes, with the first tag, and an empty one with the second; and import of
 //       what was exported
+#![tactic(auto)]
+
 mod hex;
 mod made;
 mod runs;

@@ -7,7 +7,7 @@ ghost use Rattle.bpg_segment_export.specs.Steps.{NextWith, tagged_in};
 use bpg_format::{Range, Record};
 
 // Whether the tag stands at most once; and if so, where the payload lies. An absent one is the empty range at 0.
-#[derive(Drop)]
+#[derive(Clone, Copy)]
 pub struct Tagged {
     pub once: bool,
     pub payload: Range,

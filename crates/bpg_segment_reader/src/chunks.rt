@@ -7,7 +7,7 @@ use crate::segment::{Part, part_at};
 use bpg_bytes::byte_at;
 
 // What the chunks were judged: all of them as they must be, and the length of the profile.
-#[derive(Drop)]
+#[derive(Clone, Copy)]
 pub struct Judged {
     pub good: bool,
     pub length: usize,

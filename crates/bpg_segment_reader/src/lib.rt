@@ -1,4 +1,6 @@
 // The payloads found in a run of JPEG segments.
+#![tactic(auto)]
+
 mod chunks;
 mod run;
 mod segment;

@@ -6,7 +6,7 @@ use crate::segment::{Part, part_at};
 
 // Whether a run is one that export can make; and if so, where EXIF and XMP stand in it, and how long the profile is, whose chunks follow them. If not, the
 // two ranges lie in the run in order, and no more is promised of them; of `icc_length` nothing is. Where an empty part stands is open too.
-#[derive(Drop)]
+#[derive(Clone, Copy)]
 pub struct Found {
     pub good: bool,
     pub exif: Part,

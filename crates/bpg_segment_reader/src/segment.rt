@@ -7,7 +7,7 @@ ghost use Rattle.bpg_segment_reader.specs.Places.{PartAt};
 use bpg_bytes::compare::equal;
 
 // A payload found in a run: from `start` up to `end`, where its segment ends. An absent one is empty and stands where it was looked for.
-#[derive(Drop)]
+#[derive(Clone, Copy)]
 pub struct Part {
     pub start: usize,
     pub end: usize,

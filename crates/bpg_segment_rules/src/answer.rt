@@ -3,7 +3,7 @@ ghost use Rattle.std.specs.Prelude.{◌≡◌};
 ghost use Rattle.bpg_segment_rules.specs.Calls.{refused_import};
 
 // The lengths of the payloads, which stand end to end in the buffer: EXIF, XMP, ICC. An absent one has length 0.
-#[derive(Drop)]
+#[derive(Clone, Copy)]
 pub struct Imported {
     pub status: u8,
     pub offset: usize,

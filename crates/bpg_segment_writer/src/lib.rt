@@ -1,4 +1,6 @@
 // Three payloads written as a run of JPEG segments.
+#![tactic(auto)]
+
 mod emit;
 mod run;
 mod size;

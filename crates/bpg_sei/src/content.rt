@@ -6,14 +6,14 @@ ghost use Rattle.bpg_sei.specs.Steps.{Stepped};
 use bpg_bytes::BytePos;
 
 // Where reading stands: an offset in the unit, and the zeros in a row before it, of which two count.
-#[derive(Drop)]
+#[derive(Clone, Copy)]
 pub struct Cursor {
     pub at: BytePos,
     pub zeros: u8,
 }
 
 // A byte of the content, if any is left, and where reading goes on.
-#[derive(Drop)]
+#[derive(Clone, Copy)]
 pub struct Step {
     pub more: bool,
     pub byte: u8,

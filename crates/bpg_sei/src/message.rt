@@ -9,7 +9,7 @@ use crate::{content, sum};
 const FRAME_DURATION: usize = 257;
 
 // Where reading goes on, if the content goes on that far.
-#[derive(Drop)]
+#[derive(Clone, Copy)]
 pub struct Place {
     pub more: bool,
     pub next: Cursor,
@@ -17,7 +17,7 @@ pub struct Place {
 
 // A message: whether it is a duration, and which. `more` is false where the content is cut short, and for a duration that is not of two bytes: both
 // are refusal 22.
-#[derive(Drop)]
+#[derive(Clone, Copy)]
 pub struct Message {
     pub more: bool,
     pub timed: bool,

@@ -10,7 +10,7 @@ use bpg_bytes::BytePos;
 
 // The durations that the messages of a unit set: how many, and the last; 0 where there is none. Status 22 where the messages are cut
 // short.
-#[derive(Drop)]
+#[derive(Clone, Copy)]
 pub struct Sei {
     pub status: u8,
     pub count: usize,

@@ -9,7 +9,7 @@ use bpg_bytes::arithmetic::least;
 pub const LIMIT: usize = 9_223_372_036_854_775_808;
 
 // A sum, at most LIMIT, if the content goes on to its end, and where reading goes on.
-#[derive(Drop)]
+#[derive(Clone, Copy)]
 pub struct Sum {
     pub more: bool,
     pub value: usize,

@@ -1,4 +1,6 @@
 // What `bpgshow` prints for a file.
+#![tactic(auto)]
+
 ghost use Rattle.std.specs.Prelude.{◌≡◌};
 ghost use Rattle.bpg_codec.specs.Buffer.{written, written_end};
 ghost use Rattle.bpg_show_file.specs.Summary.{summary_of};

@@ -9,7 +9,7 @@ use bpg_bytes::{BytePos, buffer};
 // More than the longest line takes.
 const LINE_SIZE: usize = 160;
 
-#[derive(Drop)]
+#[derive(Clone, Copy)]
 pub struct LineBuffer {
     bytes: [u8; LINE_SIZE],
     len: usize,

@@ -4,6 +4,8 @@
 //   00, a file: the size of its canonical form, the answer of canonicalizing into a buffer of just that size, and the size of its record's file
 //   01, an entry count, a payload's length and the data's of four bytes, high byte first, a file: the size of the file of its record with so
 //       many entries of that length, and with that data, over zeros
+#![tactic(auto)]
+
 ghost use Rattle.std.specs.Prelude.{◌≡◌, length as count};
 
 use bpg_format::{Entry, MAX_ENTRIES, Range, Record, Written};

@@ -1,6 +1,8 @@
 // Runs the deep check on the files of standard input, and prints status and offset of each on a line.
 //
 // A case is a line of hex digits: the byte 00, and the file. `#` begins a comment; other characters are skipped.
+#![tactic(auto)]
+
 use bpg_hex::HexLine;
 
 fn show_checked(file: &[u8]) {

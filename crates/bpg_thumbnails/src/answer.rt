@@ -2,7 +2,7 @@
 ghost use Rattle.std.specs.Prelude.{◌≡◌};
 ghost use Rattle.bpg_thumbnails.specs.Calls.{passed, refused};
 
-#[derive(Drop)]
+#[derive(Clone, Copy)]
 pub struct Checked {
     pub status: u8,
     pub offset: usize,

@@ -14,7 +14,7 @@ use bpg_reader::read;
 pub(crate) const LEVELS_BELOW: u8 = 3;
 
 // Width and height of a picture.
-#[derive(Drop)]
+#[derive(Clone, Copy)]
 pub(crate) struct Size {
     pub width: u32,
     pub height: u32,

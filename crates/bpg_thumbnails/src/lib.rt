@@ -1,4 +1,6 @@
 // The deep check (request 4/13): a file's thumbnails, and theirs, down to level 4.
+#![tactic(auto)]
+
 mod answer;
 mod check;
 mod levels;

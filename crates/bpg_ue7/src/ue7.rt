@@ -10,7 +10,7 @@ ghost use Rattle.bpg_ue7.specs.Answers.{number_answer};
 use bpg_bytes::BytePos;
 
 // A number and the position after it, or the status of a refusal and the position that it is reported at.
-#[derive(Drop)]
+#[derive(Clone, Copy)]
 pub enum Number {
     Value(u32, BytePos),
     Refused(u8, BytePos),

@@ -1,4 +1,6 @@
 // Premultiplied colour recovered (request 7/13).
+#![tactic(auto)]
+
 mod call;
 mod pixel;
 mod planes;

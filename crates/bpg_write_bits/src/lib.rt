@@ -1,4 +1,6 @@
 // Up to 64 bits, gathered one field after another, to be written as bytes with zero bits up to the byte.
+#![tactic(auto)]
+
 ghost use Rattle.std.specs.Prelude.{◌≡◌, ◌++◌, min, ◌-◌, ◌/◌, ◌%◌, ◌^◌, ◌≤◌, ◌<◌};
 ghost use Rattle.bpg_codec.specs.Bits.{bits as bits_of, zeros};
 ghost use Rattle.bpg_codec.specs.Buffer.{written, written_end};
@@ -10,7 +12,7 @@ use bpg_bytes::arithmetic::least;
 use bpg_bytes::{BitPos, BytePos, buffer};
 
 // The bits as a number, and how many they are: a HEVC header that keeps the rules has at most 56.
-#[derive(Drop)]
+#[derive(Clone, Copy)]
 pub struct BitBuffer {
     pub bits: u64,
     pub len: BitPos,

@@ -1,4 +1,6 @@
 // Judging a record before it is written: its refusal number, or 0.
+#![tactic(auto)]
+
 mod consistent;
 mod content;
 mod entries;

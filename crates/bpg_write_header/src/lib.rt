@@ -1,4 +1,6 @@
 // The bits of a HEVC header, for writing.
+#![tactic(auto)]
+
 mod fields;
 pub mod header;
 mod range_flags;

@@ -9,7 +9,7 @@ use bpg_format::{Record, has_alpha};
 use bpg_write_ue7::ue7;
 
 // The extension block, the headers with the data, and the whole file.
-#[derive(Drop)]
+#[derive(Clone, Copy)]
 pub struct Layout {
     pub block: u64,
     pub headers_and_data: u64,

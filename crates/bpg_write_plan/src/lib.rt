@@ -1,4 +1,6 @@
 // Planning a file: a record judged, its headers encoded and its parts measured, before any of it is written.
+#![tactic(auto)]
+
 mod layout;
 mod plan;
 

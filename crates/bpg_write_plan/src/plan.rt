@@ -13,7 +13,7 @@ use bpg_write_check::judge;
 use bpg_write_header::header;
 
 // Status 0, or a refusal number; of a refused record the rest says nothing.
-#[derive(Drop)]
+#[derive(Clone, Copy)]
 pub struct Plan {
     pub status: u8,
     pub layout: Layout,

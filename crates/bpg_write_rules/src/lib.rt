@@ -1,3 +1,5 @@
 // What a HEVC header is judged by in writing alone, each a test of a header by value.
+#![tactic(auto)]
+
 pub mod absent;
 pub mod coded;

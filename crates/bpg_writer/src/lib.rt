@@ -1,4 +1,6 @@
 // Writing a record as the file that the syntax gives: planned first, and then written.
+#![tactic(auto)]
+
 mod emit;
 mod file;
 

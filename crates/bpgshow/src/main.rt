@@ -1,4 +1,5 @@
 // Reads a file from standard input and prints its particulars in one line.
+#![tactic(auto)]
 
 // One byte more than is shown, so that a longer file is known for one.
 const SPACE: usize = 65_537;

@@ -1,12 +1,12 @@
 // What the calls answer: status 0, or refusal 37 with zeros.
-#[derive(Drop)]
+#[derive(Clone, Copy)]
 pub struct FrameAt {
     pub status: u8,
     pub frame: u32,
     pub ended: bool,
 }
 
-#[derive(Drop)]
+#[derive(Clone, Copy)]
 pub struct TickCount {
     pub status: u8,
     pub ticks: u64,

@@ -1,4 +1,6 @@
 // The loop player (request 12/13): which frame of a loop stands at a tick, and milliseconds as ticks. It needs nothing of a file.
+#![tactic(auto)]
+
 mod answer;
 mod calls;
 mod check;

@@ -2,7 +2,7 @@
 ghost use Rattle.std.specs.Prelude.{◌≡◌, ◌-◌, ◌<◌, ◌≤◌, ◌^◌, length};
 ghost use Rattle.loop_player.specs.Player.{total, all_positive, frame_in, ended_by};
 
-#[derive(Drop)]
+#[derive(Clone, Copy)]
 pub struct Round {
     pub ticks: u64,
     pub positive: bool,

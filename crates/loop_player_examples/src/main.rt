@@ -3,6 +3,8 @@
 // A case is a line of hex digits, numbers with their high byte first: 00, loop count and period of two bytes each, tick of eight, and the
 // durations of two; 01, milliseconds of four bytes and the period, for ticks; 02, milliseconds and a file. `#` begins a comment; other
 // characters are skipped.
+#![tactic(auto)]
+
 mod cases;
 mod numbers;
 mod text;

@@ -1,4 +1,6 @@
 // The loop player for C and Rust: numbers and slices alone. include/loop_player.h declares these functions for C.
+#![tactic(auto)]
+
 ghost use Rattle.std.specs.Prelude.{◌≡◌};
 ghost use Rattle.loop_player.specs.Player.{frame_answer, ticks_answer};
 ghost use Rattle.loop_player_file.specs.Files.{shown_at};

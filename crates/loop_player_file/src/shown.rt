@@ -2,7 +2,7 @@
 ghost use Rattle.std.specs.Prelude.{◌≡◌};
 ghost use Rattle.loop_player_file.specs.Files.{refused_shown, refusal_by, played_at};
 
-#[derive(Drop)]
+#[derive(Clone, Copy)]
 pub struct Shown {
     pub status: u8,
     pub offset: usize,

@@ -15,10 +15,10 @@ here : (l : List ℕ) (k j b : ℕ) → k < 8 * length l → j ≡ k / 8 → b �
 here l k j b h i e = rw (e, i, get_d-unpack l k h, bit-of-number (get_or l (k / 8) 0 / 2 ^ (7 - k % 8) % 2) (omega arith))
 
 returns : tie.Need-returns
-returns c = here _ _ _ _ (omega arith) c.before.before.before.byte_of.ensures c.before.wide.ensures
+returns c = here _ _ _ _ (omega arith) c.byte_of-byte.ensures c.wide.ensures
 
-pub bit-inside-spec : {M : Type 1} → statement M
-bit-inside-spec =
+pub bit_inside_spec : {M : Type 1} → statement M
+bit_inside_spec =
     tie.close
     (tie.spec
     (λ c κs. search rules)

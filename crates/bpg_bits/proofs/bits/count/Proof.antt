@@ -14,7 +14,7 @@ counted : (l : List ℕ) (n : ℕ) → n ≡ min (length l) (2 ^ 60) → 8 * n �
 counted l n e = rw (length-unpack (take (2 ^ 60) l), length-take) (omega arith)
 
 returns : tie.Need-returns
-returns c = counted c.before.before.args.region.now _ c.least.ensures
+returns c = counted c.args.region.now _ c.least.ensures
 
 pub count_spec : {M : Type 1} → statement M
 count_spec = tie.close (tie.spec (λ c κs. search rules) (λ c. search rules) returns)

@@ -17,10 +17,10 @@ use Rattle.bpg_bits.proofs.BitNumberLaws.{region-bit, prefix-end, prefix-one, pr
 use Rattle.bpg_bits.proofs.exp_golomb.read.Statement.{statement}
 use Rattle.bpg_bits.proofs.exp_golomb.read.Tie as tie
 
-abbrev invariant-loop : tie.invariant-loop
+abbrev invariant-loop : tie.invariant-loop-next
 invariant-loop region end z₀ next₀ z next = (z ≤ 31) × (prefix_decode 0 0 next₀ (drop next₀ (region_bits region)) ≡ prefix_decode 0 z next (drop next (region_bits region)))
 
-abbrev decreases-loop : tie.decreases-loop
+abbrev decreases-loop : tie.decreases-loop-next
 decreases-loop region end z₀ next₀ z next = end - next
 
 -- ---- what each way out and each turn says of the definition
@@ -48,30 +48,30 @@ module _ (start z next : ℕ) (l : List Bool) (inv : prefix_decode 0 0 start (dr
 -- ---- the needs
 
 -- the bit that was looked at
-seen : (c : tie.After-bit-inside invariant-loop decreases-loop)
-    → c.bit-inside.result ≡ bit (get_or (region_bits c.before.before.before.before.before.args.region.now) c.before.before.loop.next false)
-seen c = c.bit-inside.ensures ∙ ap bit (region-bit c.before.before.before.before.before.args.region.now c.before.before.loop.next (omega arith))
+seen : (c : tie.After-bit_inside invariant-loop decreases-loop)
+    → c.bit_inside.result ≡ bit (get_or (region_bits c.args.region.now) c.loop-next.next false)
+seen c = c.bit_inside.ensures ∙ ap bit (region-bit c.args.region.now c.loop-next.next (omega arith))
 
-loop-holds : tie.Need-loop-init invariant-loop decreases-loop
+loop-holds : tie.Need-loop-next-init invariant-loop decreases-loop
 loop-holds c = (omega arith, refl)
 
-bit-inside-requires : tie.Need-bit-inside-requires invariant-loop decreases-loop
+bit-inside-requires : tie.Need-bit_inside-requires invariant-loop decreases-loop
 bit-inside-requires c κs =
-    let l = c.before.before.before.before.args.region.now in
+    let l = c.args.region.now in
     omega (arith, length-unpack (take (2 ^ 60) l), length-take (2 ^ 60) l)
 
-returns : tie.Need-returns invariant-loop decreases-loop
-returns c = c.suffix.ensures ∙ ap bit_answer (one _ _ _ _ c.before.before.before.before.loop.invariant.1 (omega arith) (bit-is-one _ (sym (seen c.before.before) ∙ c.before.if1.true)))
+returns : tie.Need-returns-then-bit_inside-eq1 invariant-loop decreases-loop
+returns c = c.suffix.ensures ∙ ap bit_answer (one _ _ _ _ c.loop-next.invariant.1 (omega arith) (bit-is-one _ (sym (seen c.before.before) ∙ c.if-bit_inside-eq1.true)))
 
-returns-2 : tie.Need-returns-2 invariant-loop decreases-loop
+returns-2 : tie.Need-returns-then-z-eq31 invariant-loop decreases-loop
 returns-2 c =
-    ap bit_answer (long _ _ _ _ c.before.before.before.before.loop.invariant.1 (omega arith) (omega arith) (bit-not-one _ (λ e. c.before.if1.false (seen c.before.before ∙ e))))
+    ap bit_answer (long _ _ _ _ c.loop-next.invariant.1 (omega arith) (omega arith) (bit-not-one _ (λ e. c.if-bit_inside-eq1.false (seen c.before.before ∙ e))))
 
-loop-again : tie.Need-loop-preserved invariant-loop decreases-loop
-loop-again c = (omega arith, more _ _ _ _ c.before.before.before.before.loop.invariant.1 (omega arith) (omega arith) (bit-not-one _ (λ e. c.before.if1.false (seen c.before.before ∙ e))))
+loop-again : tie.Need-loop-next-preserved invariant-loop decreases-loop
+loop-again c = (omega arith, more _ _ _ _ c.loop-next.invariant.1 (omega arith) (omega arith) (bit-not-one _ (λ e. c.if-bit_inside-eq1.false (seen c.before.before ∙ e))))
 
-returns-3 : tie.Need-returns-3 invariant-loop decreases-loop
-returns-3 c = ap bit_answer (none _ _ _ _ c.before.loop.invariant.1 (omega arith))
+returns-3 : tie.Need-returns invariant-loop decreases-loop
+returns-3 c = ap bit_answer (none _ _ _ _ c.loop-next.invariant.1 (omega arith))
 
 pub read_spec : {M : Type 1} → statement M
 read_spec =

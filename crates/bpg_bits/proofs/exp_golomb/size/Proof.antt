@@ -8,14 +8,14 @@ use borrow.Author.Rules.{rules}
 use Rattle.bpg_bits.proofs.exp_golomb.size.Statement.{statement}
 use Rattle.bpg_bits.proofs.exp_golomb.size.Tie as tie
 
-returns : tie.Need-returns
-returns c = sym (ap length (exp_golomb-none c.before.args.v (omega arith)))
+returns : tie.Need-returns-then-v-eq4294967295
+returns c = sym (ap length (exp_golomb-none c.args.v (omega arith)))
 
-sub-result : tie.Need-overflow-sub-result
-sub-result c = (top c.before.args.v (omega arith)).1
+sub-result : tie.Need-overflow_sub-result
+sub-result c = (top c.args.v (omega arith)).1
 
-returns-2 : tie.Need-returns-2
-returns-2 c = sym (exp_golomb-size c.before.args.v (omega arith))
+returns-2 : tie.Need-returns
+returns-2 c = sym (exp_golomb-size c.args.v (omega arith))
 
-pub size-spec : {M : Type 1} → statement M
-size-spec = tie.close (tie.spec returns (λ c. search rules) sub-result (λ c. search rules) (λ c. search rules) returns-2)
+pub size_spec : {M : Type 1} → statement M
+size_spec = tie.close (tie.spec returns (λ c. search rules) sub-result (λ c. search rules) (λ c. search rules) returns-2)

@@ -44,13 +44,13 @@ module _ (z p : ℕ) (l : List Bool) (r : BitNumber) (h : r ≡ bit_answer (loca
 -- what `bits::read` answered
 module _ (c : tie.After-read) where
   abbrev z : ℕ
-  z = c.before.before.args.z
+  z = c.args.z
 
   abbrev at : ℕ
-  at = c.before.before.args.at.0
+  at = c.args.at.0
 
   abbrev left : List Bool
-  left = drop at (region_bits c.before.before.args.region.now)
+  left = drop at (region_bits c.args.region.now)
 
   answer : c.read.result ≡ bit_answer (located ((unsigned z).decode 0 at left))
   answer =
@@ -58,28 +58,28 @@ module _ (c : tie.After-read) where
       c.read.ensures ∙ ap (λ (n : ℕ). bit_answer (located ((unsigned n).decode 0 at left))) e
 
 -- the bits that were read
-module _ (c : tie.After-known-told) where
+module _ (c : tie.In-Value) where
   abbrev d : tie.After-read
   d = c.before.before.before
 
   power : (1 * 2 ^ z d) % 2 ^ 32 ≡ 2 ^ z d
-  power = one_shifted (z d) 32 d.before.before.pre
+  power = one_shifted (z d) 32 d.requires
 
-  low_small : c.before.low.given.0.0 < 2 ^ z d
-  low_small = small (z d) (at d) (left d) d.read.result (answer d) _ _ c.before.low.given.1
+  low_small : c.low-1.given.0.0 < 2 ^ z d
+  low_small = small (z d) (at d) (left d) d.read.result (answer d) _ _ c.low-1.given.1
 
-sub-t9 : tie.Need-overflow-sub-t9
+sub-t9 : tie.Need-overflow_sub-result
 sub-t9 c = omega (arith, power c, pow_pos (z (d c)))
 
-add-t10 : tie.Need-overflow-add-t10
+add-t10 : tie.Need-overflow_add-result
 add-t10 c = omega (arith, power c, low_small c, pow_mono {i = z (d c)} {j = 31} (omega arith))
 
-returns : tie.Need-returns
-returns c = let r = c.before.before in ap (raised _) (sym c.enum_told.given.1) ∙ added (z r) (at r) (left r) r.read.result (answer r)
+returns : tie.Need-returns-in-Missing
+returns c = let r = c.before.before in ap (raised _) (sym c.enum_told-1.given.1) ∙ added (z r) (at r) (left r) r.read.result (answer r)
 
-returns-2 : tie.Need-returns-2
-returns-2 c = rw (power c) (ap (raised _) (sym c.before.low.given.1) ∙ added (z (d c)) (at (d c)) (left (d c)) (d c).read.result (answer (d c)))
+returns-2 : tie.Need-returns-in-Value
+returns-2 c = rw (power c) (ap (raised _) (sym c.low-1.given.1) ∙ added (z (d c)) (at (d c)) (left (d c)) (d c).read.result (answer (d c)))
 
-pub suffix-spec : {M : Type 1} → statement M
-suffix-spec =
+pub suffix_spec : {M : Type 1} → statement M
+suffix_spec =
     tie.close (tie.spec (λ c κs. search rules) (λ c. search rules) (λ c. search rules) (λ c. search rules) sub-t9 add-t10 returns returns-2)

@@ -16,8 +16,8 @@ use Rattle.bpg_bits.proofs.short.read.Statement.{statement}
 use Rattle.bpg_bits.proofs.short.read.Tie as tie
 
 -- both bytes were looked up
-module _ (c : tie.After-wide2) where
-  abbrev enough : tie.Else1
+module _ (c : tie.After-wide-2) where
+  abbrev enough : tie.Else-remaining-width
   enough = c.before.before.before.before.before
 
   abbrev start : tie.Start
@@ -30,30 +30,30 @@ module _ (c : tie.After-wide2) where
   at = start.args.at.0
 
   abbrev width : ℕ
-  width = enough.before.before.before.least.result
+  width = enough.least-width.result
 
   power : (1 * 2 ^ width) % 2 ^ 64 ≡ 2 ^ width
   power = one_shifted width 64 (omega arith)
 
-returns : tie.Need-returns
+returns : tie.Need-returns-then-remaining-width
 returns c =
-    let a = c.before.before.before.before.before.args in
+    let a = c.args in
     unsigned-missing (region_bits a.region.now) a.at.0 (min a.n 8) (omega arith)
 
-rem_value : tie.Need-nonzero-rem-value
+rem_value : tie.Need-nonzero_rem-value-2
 rem_value c = rw (power c) (pow_pos (width c))
 
-cast-value : tie.Need-overflow-cast-value
+cast-value : tie.Need-overflow_cast-value
 cast-value c = rw (power c) (record { fits = short-small _ (width c) (omega arith) })
 
-returns-2 : tie.Need-returns-2
+returns-2 : tie.Need-returns
 returns-2 c =
-    let byte = c.before.before.before.before.byte_of.ensures in
-    let first = c.before.before.wide.ensures ∙ c.before.before.before.byte_at.ensures ∙ ap (λ (k : ℕ). get_or (region c) k 0) byte in
-    let second = c.wide2.ensures ∙ c.before.byte-at2.ensures ∙ ap (λ (k : ℕ). get_or (region c) (k + 1) 0) byte in
+    let byte = c.byte_of-byte.ensures in
+    let first = c.wide.ensures ∙ c.byte_at.ensures ∙ ap (λ (k : ℕ). get_or (region c) k 0) byte in
+    let second = c.wide-2.ensures ∙ c.byte_at-2.ensures ∙ ap (λ (k : ℕ). get_or (region c) (k + 1) 0) byte in
     rw (power c)
     (unsigned-found (region_bits (region c)) (at c) (width c) _ (omega arith) (short-number (region c) (at c) (width c) (omega arith) (omega arith) _ _ first second (omega arith))
-    ∙ ap (λ (n : ℕ). bit_answer (decode_at (region_bits (region c)) (unsigned n) 0 (at c))) (enough c).before.before.before.least.ensures)
+    ∙ ap (λ (n : ℕ). bit_answer (decode_at (region_bits (region c)) (unsigned n) 0 (at c))) (enough c).least-width.ensures)
 
 pub read_spec : {M : Type 1} → statement M
 read_spec =

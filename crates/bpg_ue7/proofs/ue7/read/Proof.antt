@@ -15,11 +15,11 @@ use Rattle.bpg_ue7.proofs.Ue7Laws.{rest_end, rest-large, rest-last, rest_more, d
 use Rattle.bpg_ue7.proofs.ue7.read.Statement.{statement}
 use Rattle.bpg_ue7.proofs.ue7.read.Tie as tie
 
-abbrev invariant-loop : tie.invariant-loop
+abbrev invariant-loop : tie.invariant-loop-next
 invariant-loop region n start end first most low value₀ next₀ value next =
     (value ≤ most) × (ue7_decode (min n 32) start (drop start region) ≡ ue7_rest (min n 32) value next (drop next region))
 
-abbrev decreases-loop : tie.decreases-loop
+abbrev decreases-loop : tie.decreases-loop-next
 decreases-loop region n start end first most low value₀ next₀ value next = end - next
 
 -- ---- what each way out and each turn says of the definition
@@ -78,39 +78,39 @@ module _ (n start : ℕ) (region : List ℕ) where
 -- ---- the needs
 
 -- a power of two is not 0
-some : (c : tie.After-largest invariant-loop decreases-loop) → 0 < 2 ^ min c.before.before.before.before.before.args.n 32
-some c = pow_pos (min c.before.before.before.before.before.args.n 32)
+some : (c : tie.After-largest-most invariant-loop decreases-loop) → 0 < 2 ^ min c.args.n 32
+some c = pow_pos (min c.args.n 32)
 
-returns : tie.Need-returns invariant-loop decreases-loop
+returns : tie.Need-returns-then-end-start invariant-loop decreases-loop
 returns c = ap number_answer (empty _ _ _ (omega arith))
 
-returns-2 : tie.Need-returns-2 invariant-loop decreases-loop
-returns-2 c = ap number_answer (marked _ _ _ (omega arith) c.if2.true)
+returns-2 : tie.Need-returns-then-first invariant-loop decreases-loop
+returns-2 c = ap number_answer (marked _ _ _ (omega arith) c.if-first.true)
 
-returns-3 : tie.Need-returns-3 invariant-loop decreases-loop
-returns-3 c = ap number_answer (first-large _ _ _ (omega arith) c.before.before.if2.false (omega arith))
+returns-3 : tie.Need-returns-then-most-low invariant-loop decreases-loop
+returns-3 c = ap number_answer (first-large _ _ _ (omega arith) c.if-first.false (omega arith))
 
-returns-4 : tie.Need-returns-4 invariant-loop decreases-loop
-returns-4 c = ap number_answer (first_done _ _ _ (omega arith) c.before.before.before.if2.false (omega (arith, some c.before.before)) (omega arith))
+returns-4 : tie.Need-returns-then-first-lt128 invariant-loop decreases-loop
+returns-4 c = ap number_answer (first_done _ _ _ (omega arith) c.if-first.false (omega (arith, some c.before.before)) (omega arith))
 
-loop-holds : tie.Need-loop-init invariant-loop decreases-loop
-loop-holds c = (omega arith, first_more _ _ _ (omega arith) c.before.before.before.if2.false (omega (arith, some c.before.before)) (omega arith))
+loop-holds : tie.Need-loop-next-init invariant-loop decreases-loop
+loop-holds c = (omega arith, first_more _ _ _ (omega arith) c.if-first.false (omega (arith, some c.before.before)) (omega arith))
 
-returns-5 : tie.Need-returns-5 invariant-loop decreases-loop
-returns-5 c = ap number_answer (large _ _ _ _ _ c.before.before.before.loop.invariant.1 (omega arith) (omega arith))
+returns-5 : tie.Need-returns-then-most-value invariant-loop decreases-loop
+returns-5 c = ap number_answer (large _ _ _ _ _ c.loop-next.invariant.1 (omega arith) (omega arith))
 
-returns-6 : tie.Need-returns-6 invariant-loop decreases-loop
+returns-6 : tie.Need-returns-then-byte-lt128 invariant-loop decreases-loop
 returns-6 c =
     let l = c.before.before.before.before in
-    ap number_answer (done _ _ _ _ _ l.loop.invariant.1 (omega arith) (omega (arith, some l.before.before.before)) (omega arith))
+    ap number_answer (done _ _ _ _ _ l.loop-next.invariant.1 (omega arith) (omega (arith, some l.before.before.before)) (omega arith))
 
-loop-again : tie.Need-loop-preserved invariant-loop decreases-loop
+loop-again : tie.Need-loop-next-preserved invariant-loop decreases-loop
 loop-again c =
     let l = c.before.before.before.before in
-    (omega arith, more _ _ _ _ _ l.loop.invariant.1 (omega arith) (omega (arith, some l.before.before.before)) (omega arith))
+    (omega arith, more _ _ _ _ _ l.loop-next.invariant.1 (omega arith) (omega (arith, some l.before.before.before)) (omega arith))
 
-returns-7 : tie.Need-returns-7 invariant-loop decreases-loop
-returns-7 c = ap number_answer (cut _ _ _ _ _ c.before.loop.invariant.1 (omega arith))
+returns-7 : tie.Need-returns invariant-loop decreases-loop
+returns-7 c = ap number_answer (cut _ _ _ _ _ c.loop-next.invariant.1 (omega arith))
 
 pub read_spec : {M : Type 1} → statement M
 read_spec =

@@ -32,37 +32,37 @@ module _ (region : List ℕ) (n status p : ℕ) where
   positive v q e z = rw (e, ne_eqb v 0 z)
 
 -- a value was read
-module _ (c : tie.After-known-told2) where
+module _ (c : tie.In-Value) where
   abbrev r : tie.After-read
   r = c.before.before.before
 
   abbrev region : List ℕ
-  region = r.before.before.args.region.now
+  region = r.args.region.now
 
   abbrev at : ℕ
-  at = r.before.before.args.at.0
+  at = r.args.at.0
 
   abbrev width : ℕ
-  width = min r.before.before.args.n 32
+  width = min r.args.n 32
 
   abbrev after : ℕ
-  after = c.before.value.given.0.1.0.0
+  after = c.value-1.given.0.1.0.0
 
-  value-is : (ue7 width).decode at at (drop at region) ≡ ok (decoded c.before.value.given.0.0 after (drop after region))
-  value-is = value_read (ue7-advances width) region at r.read.result r.read.ensures _ _ c.before.value.given.1
+  value-is : (ue7 width).decode at at (drop at region) ≡ ok (decoded c.value-1.given.0.0 after (drop after region))
+  value-is = value_read (ue7-advances width) region at r.read.result r.read.ensures _ _ c.value-1.given.1
 
-returns : tie.Need-returns
-returns c = ap number_answer (zero _ _ _ _ _ (after c.before) (value-is c.before) c.if1.true)
+returns : tie.Need-returns-then-value-eq0
+returns c = ap number_answer (zero _ _ _ _ _ (after c.before) (value-is c.before) c.if-value-eq0.true)
 
-returns-2 : tie.Need-returns-2
+returns-2 : tie.Need-returns-in-Refused
 returns-2 c =
     let r = c.before.before.before in
-    ap number_answer (refused _ _ _ _ _ _ (refusal-read (ue7-advances (min r.before.before.args.n 32)) _ _ r.read.result r.read.ensures _ _ c.before.why.given.1))
+    ap number_answer (refused _ _ _ _ _ _ (refusal-read (ue7-advances (min r.args.n 32)) _ _ r.read.result r.read.ensures _ _ c.why-1.given.1))
 
-returns-3 : tie.Need-returns-3
-returns-3 c = ap number_answer (positive _ _ _ _ _ (after c.before) (value-is c.before) c.if1.false)
+returns-3 : tie.Need-returns-else-value-eq0
+returns-3 c = ap number_answer (positive _ _ _ _ _ (after c.before) (value-is c.before) c.if-value-eq0.false)
 
-pub read-nonzero-spec : {M : Type 1} → statement M
-read-nonzero-spec =
+pub read_nonzero_spec : {M : Type 1} → statement M
+read_nonzero_spec =
     tie.close
     (tie.spec (λ c κs. search rules) (λ c. search rules) (λ c. search rules) returns returns-2 returns-3)
