@@ -60,13 +60,13 @@ module _ (c : tie.After-read) where
 -- the bits that were read
 module _ (c : tie.In-Value) where
   abbrev d : tie.After-read
-  d = c.before.before.before
+  d = c.before
 
   power : (1 * 2 ^ z d) % 2 ^ 32 ≡ 2 ^ z d
   power = one_shifted (z d) 32 d.requires
 
-  low_small : c.low-1.given.0.0 < 2 ^ z d
-  low_small = small (z d) (at d) (left d) d.read.result (answer d) _ _ c.low-1.given.1
+  low_small : c.in-Value.low < 2 ^ z d
+  low_small = small (z d) (at d) (left d) d.read.result (answer d) _ _ c.in-Value.is
 
 sub-t9 : tie.Need-overflow_sub-result
 sub-t9 c = omega (arith, power c, pow_pos (z (d c)))
@@ -75,10 +75,10 @@ add-t10 : tie.Need-overflow_add-result
 add-t10 c = omega (arith, power c, low_small c, pow_mono {i = z (d c)} {j = 31} (omega arith))
 
 returns : tie.Need-returns-in-Missing
-returns c = let r = c.before.before in ap (raised _) (sym c.enum_told-1.given.1) ∙ added (z r) (at r) (left r) r.read.result (answer r)
+returns c = let r = c.before in ap (raised _) (sym c.in-Missing.is) ∙ added (z r) (at r) (left r) r.read.result (answer r)
 
 returns-2 : tie.Need-returns-in-Value
-returns-2 c = rw (power c) (ap (raised _) (sym c.low-1.given.1) ∙ added (z (d c)) (at (d c)) (left (d c)) (d c).read.result (answer (d c)))
+returns-2 c = rw (power c) (ap (raised _) (sym c.in-Value.is) ∙ added (z (d c)) (at (d c)) (left (d c)) (d c).read.result (answer (d c)))
 
 pub suffix_spec : {M : Type 1} → statement M
 suffix_spec =

@@ -34,7 +34,7 @@ module _ (region : List ℕ) (n status p : ℕ) where
 -- a value was read
 module _ (c : tie.In-Value) where
   abbrev r : tie.After-read
-  r = c.before.before.before
+  r = c.before
 
   abbrev region : List ℕ
   region = r.args.region.now
@@ -46,18 +46,18 @@ module _ (c : tie.In-Value) where
   width = min r.args.n 32
 
   abbrev after : ℕ
-  after = c.value-1.given.0.1.0.0
+  after = c.in-Value.next.0
 
-  value-is : (ue7 width).decode at at (drop at region) ≡ ok (decoded c.value-1.given.0.0 after (drop after region))
-  value-is = value_read (ue7-advances width) region at r.read.result r.read.ensures _ _ c.value-1.given.1
+  value-is : (ue7 width).decode at at (drop at region) ≡ ok (decoded c.in-Value.value after (drop after region))
+  value-is = value_read (ue7-advances width) region at r.read.result r.read.ensures _ _ c.in-Value.is
 
 returns : tie.Need-returns-then-value-eq0
 returns c = ap number_answer (zero _ _ _ _ _ (after c.before) (value-is c.before) c.if-value-eq0.true)
 
 returns-2 : tie.Need-returns-in-Refused
 returns-2 c =
-    let r = c.before.before.before in
-    ap number_answer (refused _ _ _ _ _ _ (refusal-read (ue7-advances (min r.args.n 32)) _ _ r.read.result r.read.ensures _ _ c.why-1.given.1))
+    let r = c.before in
+    ap number_answer (refused _ _ _ _ _ _ (refusal-read (ue7-advances (min r.args.n 32)) _ _ r.read.result r.read.ensures _ _ c.in-Refused.is))
 
 returns-3 : tie.Need-returns-else-value-eq0
 returns-3 c = ap number_answer (positive _ _ _ _ _ (after c.before) (value-is c.before) c.if-value-eq0.false)
