@@ -11,7 +11,8 @@ import os
 import re
 import sys
 
-WORD = re.compile(r"[A-Za-z_][A-Za-z0-9_']*")
+# a number is no word, so that 0xFB stays
+WORD = re.compile(r"(?<![0-9A-Za-z_'])[A-Za-z_][A-Za-z0-9_']*")
 MIXED = re.compile(r"[a-z_][A-Za-z0-9_']*[A-Z]")
 # A lemma or a variable that already has the name that a definition gets: file, its word, its new word.
 APART = [

@@ -9,7 +9,7 @@ use Rattle.bpg_format.specs.Content.{Flags, Extension, Content, has_alpha}
 
 -- item 1: magic
 abbrev pub magic : List ℕ
-magic = 0x42 ∷ 0x50 ∷ 0x47 ∷ 0x_fb ∷ []
+magic = 0x42 ∷ 0x50 ∷ 0x47 ∷ 0xFB ∷ []
 
 -- item 2, byte 4: pixel format 3 bits, alpha1 1, bit depth minus 8 4
 abbrev pub byte4 : Flags → ℕ

@@ -21,7 +21,7 @@ abbrev code : List ℕ
 code = 0 ∷ 0 ∷ 1 ∷ []
 
 abbrev lasts : List ℕ
-lasts = 0x4_e ∷ 1 ∷ 5 ∷ 1 ∷ 9 ∷ 0x_ff ∷ 2 ∷ 2 ∷ 0 ∷ 5 ∷ 0x80 ∷ []
+lasts = 0x4E ∷ 1 ∷ 5 ∷ 1 ∷ 9 ∷ 0xFF ∷ 2 ∷ 2 ∷ 0 ∷ 5 ∷ 0x80 ∷ []
 
 pub data Example : Type 0 where
   example : (alpha : Bool) → List ℕ → Outcome (List ℕ) → Example

@@ -30,7 +30,7 @@ turned a b =
     ]
 
 magic-bytes : (l : List ℕ) → 4 ≤ length l
-    → same magic (take 4 l) ≡ (eqb 0x42 (get_or l 0 0) && (eqb 0x50 (get_or l 1 0) && (eqb 0x47 (get_or l 2 0) && (eqb 0x_fb (get_or l 3 0) && true))))
+    → same magic (take 4 l) ≡ (eqb 0x42 (get_or l 0 0) && (eqb 0x50 (get_or l 1 0) && (eqb 0x47 (get_or l 2 0) && (eqb 0xFB (get_or l 3 0) && true))))
 magic-bytes [] h = absurd (omega arith)
 magic-bytes (a ∷ []) h = absurd (omega arith)
 magic-bytes (a ∷ b ∷ []) h = absurd (omega arith)
@@ -49,8 +49,8 @@ module _ (l : List ℕ) (h : 4 ≤ length l) where
       pub not_third : get_or l 2 0 ≢ 0x47 → false ≡ same magic (take 4 l)
       not_third n = sym (magic-bytes l h ∙ rw (a, b, turned 0x47 (get_or l 2 0), ne_eqb _ _ n))
 
-      pub all_but_last : get_or l 2 0 ≡ 0x47 → eqb (get_or l 3 0) 0x_fb ≡ same magic (take 4 l)
-      all_but_last c = sym (magic-bytes l h ∙ rw (a, b, c, and-true, turned 0x_fb (get_or l 3 0)))
+      pub all_but_last : get_or l 2 0 ≡ 0x47 → eqb (get_or l 3 0) 0xFB ≡ same magic (take 4 l)
+      all_but_last c = sym (magic-bytes l h ∙ rw (a, b, c, and-true, turned 0xFB (get_or l 3 0)))
 
 -- ---- the six bytes
 

@@ -10,9 +10,9 @@ returns c =
     let third = c.before in
     let second = third.before in
     let first = second.before in
-    rw (first.byte_at.ensures, second.byte-at2.ensures, third.byte-at3.ensures, c.byte-at4.ensures) (sym (by_bytes _))
+    rw (first.byte_at-first.ensures, second.byte_at-second.ensures, third.byte_at-third.ensures, c.byte_at-fourth.ensures) (sym (by_bytes _))
 
-pub data-allowed-spec : {M : Type 1} → statement M
-data-allowed-spec =
+pub data_allowed_spec : {M : Type 1} → statement M
+data_allowed_spec =
     tie.close
     (tie.spec (λ c κs. search rules) (λ c κs. search rules) (λ c κs. search rules) (λ c κs. search rules) returns)
