@@ -54,7 +54,7 @@ before-length c =
 
 pub entries-length : (p : ℕ) (es : List Extension) → length (entries_at p es) ≡ length es
 entries-length p [] = refl
-entries-length p (e ∷ es) = ap suc (entries-length _ es)
+entries-length p (e ∷ es) = ap suc (entries-length (p + length (ue7_bytes e.tag) + length (ue7_bytes (length e.payload)) + length e.payload) es)
 
 payload-back : (before tag size payload after : List ℕ)
     → take (length payload) (drop (length before + length tag + length size) (before ++ ((tag ++ (size ++ payload)) ++ after))) ≡ payload

@@ -8,7 +8,7 @@ use mir.Val.{Val, WT}
 use denote.Shadow.{shadow}
 use denote.Array.{each}
 use denote.Laws.{Is}
-use denote.Struct.Field.{Field}
+use denote.RattleType.{RattleType}
 use denote.Struct.Laws.{val}
 use Rattle.bpg_codec.specs.Lawful.{All}
 use Rattle.bpg_format.specs.Limits.{max_entries}
@@ -35,8 +35,8 @@ pub flags-count : (h : Header) {vs : List Val} → Is header-type.the_row h vs �
 flags-count h g = search unmapped
 
 -- what the row of an element says, of each element of an array
-module _ (F : Field) (P : F.Value → Type 0) (law : (x : F.Value) (vs : List Val) → Is F.row (F.into x) vs → P x) where
-  each_keeps : (xs : List F.Value) (us : List Val) → shadow (each _ F.row.own_val (map F.into xs) us) → All P xs
+module _ (R : RattleType) (P : R.Denot → Type 0) (law : (x : R.Denot) (vs : List Val) → Is R x vs → P x) where
+  each_keeps : (xs : List R.Denot) (us : List Val) → shadow (each _ R.own_val xs us) → All P xs
   each_keeps [] us e = tt
   each_keeps (x ∷ xs) [] e = absurd e
   each_keeps (x ∷ xs) (u ∷ us) e = (law x (u ∷ []) e.0, each_keeps xs us e.1)
@@ -45,7 +45,7 @@ abbrev NineFlags : Header → Type 0
 NineFlags h = length h.range_flags ≡ 9
 
 header-flags : (r : Record) {vs : List Val} → Is record-type.the_row r vs → All NineFlags r.headers
-header-flags r g = search (each_keeps header-type.the_field NineFlags λ h vs k. flags-count h k)
+header-flags r g = search (each_keeps header-type.the_row NineFlags λ h vs k. flags-count h k)
 
 header-nine : (hs : List Header) (i : ℕ) → All NineFlags hs → NineFlags (get_or hs i zero_header)
 header-nine [] i a = refl
@@ -56,7 +56,7 @@ abbrev TagFits : Entry → Type 0
 TagFits e = e.tag < 2 ^ 32
 
 entry-tags : (r : Record) {vs : List Val} → Is record-type.the_row r vs → All TagFits r.entries
-entry-tags r g = search (each_keeps entry-type.the_field TagFits λ e vs k. omega arith)
+entry-tags r g = search (each_keeps entry-type.the_row TagFits λ e vs k. omega arith)
 
 -- a record of a program is typed
 pub typed : (r : Record) {vs : List Val} → Is record-type.the_row r vs → Typed r
