@@ -9,12 +9,11 @@ use Rattle.bpg_canonical_record.proofs.canonical.Tie as tie
 
 returns : tie.Need-returns
 returns c =
-    let n = c.before in
     c.with_entries.ensures
-    ∙ ap₂ (λ (size : ℕ) (x : Record). canonical_entries size x) n.loop-size.ensures n.before.with-flags.ensures
+    ∙ ap₂ (λ (size : ℕ) (x : Record). canonical_entries size x) c.loop_size.ensures c.with_flags.ensures
 
-pub canonical-spec : {M : Type 1} → statement M
-canonical-spec =
+pub canonical_spec : {M : Type 1} → statement M
+canonical_spec =
     tie.close
     (tie.spec
     (λ c κs. search rules) (λ c κs. search rules) (λ c κs. search rules) returns)

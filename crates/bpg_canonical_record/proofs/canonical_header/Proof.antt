@@ -8,8 +8,8 @@ use Rattle.bpg_canonical_record.proofs.canonical_header.Tie as tie
 
 returns : tie.Need-returns
 returns c =
-    let h = c.before.before.args.header in
-    ap (λ (none : Bool). let range = h.sps_range_extension_flag && not none in header_with range range (picture_header h)) c.before.no-range-flag.ensures
+    let h = c.args.header in
+    ap (λ (none : Bool). let range = h.sps_range_extension_flag && not none in header_with range range (picture_header h)) c.no_range_flag.ensures
 
-pub canonical-header-spec : {M : Type 1} → statement M
-canonical-header-spec = tie.close (tie.spec (λ c κs. search rules) returns)
+pub canonical_header_spec : {M : Type 1} → statement M
+canonical_header_spec = tie.close (tie.spec (λ c κs. search rules) returns)

@@ -7,27 +7,25 @@ use Rattle.bpg_canonical_record.proofs.loop_size.Statement.{statement}
 use Rattle.bpg_canonical_record.proofs.loop_size.Tie as tie
 
 -- each of the numbers takes few bytes
-small : (c : tie.After-size3) → (c.before.before.before.before.size.result ≤ 10) × (c.before.before.size2.result ≤ 10) × (c.size3.result ≤ 10)
+small : (c : tie.After-size-den) → (c.size-count.result ≤ 10) × (c.size-num.result ≤ 10) × (c.size-den.result ≤ 10)
 small c =
-    let s2 = c.before.before in
-    let s1 = s2.before.before in
-    let r = s1.before.before.args.«record» in (
-      omega (arith, s1.size.ensures, size-most r.loop_count (omega (arith, s1.before.struct_known.given))),
-      omega (arith, s2.size2.ensures, size-most r.frame_period_num (omega (arith, s2.before.struct-known2.given))),
-      omega (arith, c.size3.ensures, size-most r.frame_period_den (omega (arith, c.before.struct-known3.given))),
+    let r = c.args.«record» in (
+      omega (arith, c.size-count.ensures, size-most r.loop_count (omega (arith, c.struct_known-1.given))),
+      omega (arith, c.size-num.ensures, size-most r.frame_period_num (omega (arith, c.struct_known-2-1.given))),
+      omega (arith, c.size-den.ensures, size-most r.frame_period_den (omega (arith, c.struct_known-3-1.given))),
     )
 
-add-result : tie.Need-overflow-add-result
+add-result : tie.Need-overflow_add-result
 add-result c = omega (arith, (small c).0, (small c).1)
 
-add-result-2 : tie.Need-overflow-add-result-2
+add-result-2 : tie.Need-overflow_add-result-2
 add-result-2 c = omega (arith, (small c).0, (small c).1, (small c).2)
 
-cast-result : tie.Need-overflow-cast-result
+cast-result : tie.Need-overflow_cast-result
 cast-result c = omega (arith, (small c).0, (small c).1, (small c).2)
 
-pub loop-size-spec : {M : Type 1} → statement M
-loop-size-spec =
+pub loop_size_spec : {M : Type 1} → statement M
+loop_size_spec =
     tie.close
     (tie.spec
     (λ c. search rules) (λ c κs. search rules) (λ c. search rules) (λ c κs. search rules)

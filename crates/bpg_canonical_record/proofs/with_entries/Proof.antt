@@ -19,50 +19,48 @@ use Rattle.bpg_canonical_record.proofs.with_entries.Tie as tie
 abbrev with_entries : Record → List Entry → Record
 with_entries r es = record_with r.extension_present_flag r.explicit_length es r.headers r
 
-abbrev invariant-loop : tie.invariant-loop
+abbrev invariant-loop : tie.invariant-loop-k
 invariant-loop size used all₀ k₀ all k = (k ≤ used) × (used ≤ max_entries) × (all ≡ with_entries all₀ (changed (canonical_entry size) k all₀.entries))
 
-abbrev decreases-loop : tie.decreases-loop
+abbrev decreases-loop : tie.decreases-loop-k
 decreases-loop size used all₀ k₀ all k = used - k
 
 -- the array has its length
 whole : (c : tie.Start invariant-loop decreases-loop) → length c.args.«record».entries ≡ max_entries
 whole c = entries-count c.args.«record» c.well-formed.0
 
-loop-holds : tie.Need-loop-init invariant-loop decreases-loop
-loop-holds c = (omega arith, omega (arith, c.used-entries.ensures), refl)
+loop-holds : tie.Need-loop-k-init invariant-loop decreases-loop
+loop-holds c = (omega arith, omega (arith, c.used_entries-used.ensures), refl)
 
-loop-less : tie.Need-loop-smaller invariant-loop decreases-loop
-loop-less c = omega (arith, c.before.before.loop-test.true)
+loop-less : tie.Need-loop-k-smaller invariant-loop decreases-loop
+loop-less c = omega (arith, c.loop-k-test.true)
 
-loop-again : tie.Need-loop-preserved invariant-loop decreases-loop
+loop-again : tie.Need-loop-k-preserved invariant-loop decreases-loop
 loop-again c =
-    let l = c.before.before.before.loop in
-    let s = c.before.before.before.before.before in
-    let f = canonical_entry s.args.size in
-    let es = s.args.«record».entries in
-    let taken = c.before.before.loop-test.true in
+    let l = c.loop-k in
+    let f = canonical_entry c.args.size in
+    let es = c.args.«record».entries in
+    let taken = c.loop-k-test.true in
     let n : suc l.k ≡ l.k + 1 = omega arith in (
       omega (arith, taken),
       l.invariant.1,
-      ap (λ (r : Record). with_entries r (set r.entries l.k c.canonical-entry.result)) l.invariant.2
-          ∙ ap (λ (e : Entry). with_entries s.args.«record» (set (changed f l.k es) l.k e))
-          (c.canonical-entry.ensures ∙ ap (λ (r : Record). f (get_or r.entries l.k zero_entry)) l.invariant.2)
-          ∙ ap (with_entries s.args.«record») (change-next f es l.k zero_entry (omega (arith, taken, l.invariant.1, whole s)) ∙ ap (λ (m : ℕ). changed f m es) n),
+      ap (λ (r : Record). with_entries r (set r.entries l.k c.canonical_entry.result)) l.invariant.2
+          ∙ ap (λ (e : Entry). with_entries c.args.«record» (set (changed f l.k es) l.k e))
+          (c.canonical_entry.ensures ∙ ap (λ (r : Record). f (get_or r.entries l.k zero_entry)) l.invariant.2)
+          ∙ ap (with_entries c.args.«record») (change-next f es l.k zero_entry (omega (arith, taken, l.invariant.1, whole c.before.before.before.before.before)) ∙ ap (λ (m : ℕ). changed f m es) n),
     )
 
 returns : tie.Need-returns invariant-loop decreases-loop
 returns c =
-    let l = c.before.loop in
-    let u = c.before.before in
-    let r = u.before.args.«record» in
+    let l = c.loop-k in
+    let r = c.args.«record» in
     l.invariant.2
     ∙ ap (with_entries r)
-    (change-most (canonical_entry u.before.args.size) r.entries l.k r.entry_count
-    (omega (arith, l.invariant.0, c.loop-test.false, u.used-entries.ensures, whole u.before)))
+    (change-most (canonical_entry c.args.size) r.entries l.k r.entry_count
+    (omega (arith, l.invariant.0, c.loop-k-test.false, c.used_entries-used.ensures, whole c.before.before.before)))
 
-pub with-entries-spec : {M : Type 1} → statement M
-with-entries-spec =
+pub with_entries_spec : {M : Type 1} → statement M
+with_entries_spec =
     tie.close
     (tie.spec
     invariant-loop decreases-loop (λ c κs. search rules) loop-holds (λ c. search rules) (λ c. search rules)

@@ -18,13 +18,12 @@ two s = search headers-count
 
 returns : tie.Need-returns
 returns c =
-    let s = c.before.before.before.before in
-    let r = s.args.t1 in
+    let r = c.args.t1 in
     ap (λ (l : List Header). record_with (not (eqb r.entry_count 0)) false r.entries l r)
-    (ap₂ (λ (x y : Header). set (set r.headers 0 x) 1 y) c.before.canonical-header.ensures c.canonical-header2.ensures ∙ change-both canonical_header r.headers _ (two s))
+    (ap₂ (λ (x y : Header). set (set r.headers 0 x) 1 y) c.canonical_header.ensures c.canonical_header-2.ensures ∙ change-both canonical_header r.headers _ (two c.before.before.before.before))
 
-pub with-flags-spec : {M : Type 1} → statement M
-with-flags-spec =
+pub with_flags_spec : {M : Type 1} → statement M
+with_flags_spec =
     tie.close
     (tie.spec
     (λ c. search rules) (λ c. search rules) (λ c κs. search rules) (λ c. search rules)

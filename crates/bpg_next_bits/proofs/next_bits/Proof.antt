@@ -7,15 +7,14 @@ use Rattle.bpg_next_bits.proofs.NextBitsLaws.{in-word-none, in-word-first}
 use Rattle.bpg_next_bits.proofs.next_bits.Statement.{statement}
 use Rattle.bpg_next_bits.proofs.next_bits.Tie as tie
 
-returns-2 : tie.Need-returns-2
+returns-2 : tie.Need-returns
 returns-2 c =
-    let w = c.before.before.before in
-    let a = w.before.before.before.before.before.args in
-    in-word-first a.region.now a.at.0 w.read.result (w.read.ensures ∙ ap (word_bits a.region.now) w.before.byte_of.ensures)
-    w.before.before.if1.false c.least.result (omega arith) (omega arith)
+    let a = c.args in
+    in-word-first a.region.now a.at.0 c.read-word.result (c.read-word.ensures ∙ ap (word_bits a.region.now) c.byte_of.ensures)
+    c.if-at-ne0.false c.least-count.result (omega arith) (omega arith)
 
-pub next-bits-spec : {M : Type 1} → statement M
-next-bits-spec =
+pub next_bits_spec : {M : Type 1} → statement M
+next_bits_spec =
     tie.close
     (tie.spec
     (λ c. in-word-none _ _ _)

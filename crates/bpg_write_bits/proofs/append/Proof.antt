@@ -40,37 +40,37 @@ module _ (b : BitBuffer) (v w : ℕ) (h : w ≤ 63) where
   appended-not k r e = e ∙ sym (append-not b (bits w v) (rw length-bits k))
 
 -- the width is known
-module _ (c : tie.After-least) where
+module _ (c : tie.After-least-width) where
   abbrev b : BitBuffer
-  b = c.before.args.b
+  b = c.args.b
 
   abbrev v : ℕ
-  v = c.before.args.v
+  v = c.args.v
 
-  most : c.least.result ≤ 63
-  most = omega (arith, c.least.ensures)
+  most : c.least-width.result ≤ 63
+  most = omega (arith, c.least-width.ensures)
 
   -- so are the bits
-  same : appended b (bits c.least.result v) ≡ appended b (bits (min c.before.args.n 63) v)
-  same = ap (λ (w : ℕ). appended b (bits w v)) c.least.ensures
+  same : appended b (bits c.least-width.result v) ≡ appended b (bits (min c.args.n 63) v)
+  same = ap (λ (w : ℕ). appended b (bits w v)) c.least-width.ensures
 
-returns : tie.Need-returns
+returns : tie.Need-returns-then-b-gt64
 returns c = let l = c.before.before.before in appended-not (b l) (v l) _ (most l) (omega arith) _ c.overfull.ensures ∙ same l
 
-returns-2 : tie.Need-returns-2
-returns-2 c = let l = c.before.before.before.before.before in appended-not (b l) (v l) _ (most l) (omega arith) _ c.overfull2.ensures ∙ same l
+returns-2 : tie.Need-returns-then-b-width
+returns-2 c = let l = c.before.before.before.before.before in appended-not (b l) (v l) _ (most l) (omega arith) _ c.overfull-then-b-width.ensures ∙ same l
 
-rem-t11 : tie.Need-nonzero-rem-t11
+rem-t11 : tie.Need-nonzero_rem-result
 rem-t11 c = let l = c.before.before.before.before.before in positive (b l) (v l) _ (most l)
 
-add-t12 : tie.Need-overflow-add-t12
+add-t12 : tie.Need-overflow_add-result
 add-t12 c = let l = c.before.before.before.before.before in omega (arith, sum_fits (b l) (v l) _ (most l))
 
-returns-3 : tie.Need-returns-3
+returns-3 : tie.Need-returns
 returns-3 c = let l = c.before.before.before.before.before.before in appended-is (b l) (v l) _ (most l) (omega arith) ∙ same l
 
-pub append-spec : {M : Type 1} → statement M
-append-spec =
+pub append_spec : {M : Type 1} → statement M
+append_spec =
     tie.close
     (tie.spec
     (λ c κs. search rules)

@@ -29,7 +29,7 @@ field v n e = either_way (2 ^ 32 - 1) v none some
         rw m (sym (exp_golomb-one-field v h))
 
 returns : tie.Need-returns
-returns c = c.append.ensures ∙ ap (appended c.before.before.args.b) (field _ _ c.before.size.ensures)
+returns c = c.append.ensures ∙ ap (appended c.args.b) (field _ _ c.size.ensures)
 
-pub append-exp-golomb-spec : {M : Type 1} → statement M
-append-exp-golomb-spec = tie.close (tie.spec (λ c κs. search rules) (λ c. search rules) (λ c κs. search rules) returns)
+pub append_exp_golomb_spec : {M : Type 1} → statement M
+append_exp_golomb_spec = tie.close (tie.spec (λ c κs. search rules) (λ c. search rules) (λ c κs. search rules) returns)

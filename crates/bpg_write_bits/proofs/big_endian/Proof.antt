@@ -9,18 +9,18 @@ unfolding big_endian
 returns c =
     let h = c.before.before.before.before in
     rw (
-      h.before.before.before.byte.ensures,
-      h.before.before.byte2.ensures,
-      h.before.byte3.ensures,
-      h.byte4.ensures,
-      c.before.before.before.byte5.ensures,
-      c.before.before.byte6.ensures,
-      c.before.byte7.ensures,
-      c.byte8.ensures,
+      h.byte.ensures,
+      h.byte-2.ensures,
+      h.byte-3.ensures,
+      h.byte-4.ensures,
+      c.byte-5.ensures,
+      c.byte-6.ensures,
+      c.byte-7.ensures,
+      c.byte-8.ensures,
     )
 
-pub big-endian-spec : {M : Type 1} → statement M
-big-endian-spec =
+pub big_endian_spec : {M : Type 1} → statement M
+big_endian_spec =
     tie.close
     (tie.spec
     (λ c κs. search rules)

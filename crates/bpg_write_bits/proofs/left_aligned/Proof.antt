@@ -28,11 +28,11 @@ some v n h =
     ∙ bits-append n k x
     ∙ ap₂ ◌++◌ (ap (bits n) (shl-shr (v % 2 ^ n) k) ∙ bits-mod n v) (sym (bits-mod k x) ∙ ap (bits k) low ∙ bits-zero k)
 
-returns : tie.Need-returns
-returns c = none _ _ c.if1.true
+returns : tie.Need-returns-then-n-eq0
+returns c = none _ _ c.if-n-eq0.true
 
-returns-2 : tie.Need-returns-2
-returns-2 c = some _ _ c.before.requires
+returns-2 : tie.Need-returns
+returns-2 c = some _ _ c.requires
 
-pub left-aligned-spec : {M : Type 1} → statement M
-left-aligned-spec = tie.close (tie.spec returns (λ c. search rules) (λ c. search rules) returns-2)
+pub left_aligned_spec : {M : Type 1} → statement M
+left_aligned_spec = tie.close (tie.spec returns (λ c. search rules) (λ c. search rules) returns-2)

@@ -20,10 +20,10 @@ bytes-are b n v l e s f =
     let k = first-bytes (bits n b.bits) v (rw length-bits (omega arith)) (rw length-bits s) in
     rw (f, ← e) (rw length-bits at k)
 
-slice-aggregate-write : tie.Need-slice-aggregate-write
+slice-aggregate-write : tie.Need-slice_bounds-write-end
 slice-aggregate-write c =
     let b = c.before.before in
-    sym (length-take-le _ _ (omega (arith, b.before.before.least.ensures, ap length b.big_endian.ensures, length-big_endian 8 b.before.left-aligned.result)))
+    sym (length-take-le _ _ (omega (arith, b.least-count.ensures, ap length b.big_endian-bytes.ensures, length-big_endian 8 b.left_aligned.result)))
 
 returns : tie.Need-returns
 returns c =
@@ -31,7 +31,7 @@ returns c =
     let b = w.before.before.before in
     let l = b.before.before in
     let st = l.before.before in
-    let e = bytes-are st.args.b l.least.result b.before.left-aligned.result b.big_endian.result l.least.ensures b.before.left-aligned.ensures b.big_endian.ensures in
+    let e = bytes-are st.args.b l.least-count.result b.left_aligned.result b.big_endian-bytes.result l.least-count.ensures b.left_aligned.ensures b.big_endian-bytes.ensures in
     rw (← e) w.write.ensures
 
 pub write_spec : {M : Type 1} → statement M

@@ -10,24 +10,24 @@ use Rattle.bpg_sample_rules.proofs.Filling.{Filled, fill_begins, map_next, map-e
 use Rattle.bpg_cmyk.proofs.plane.complement_plane.Statement.{statement}
 use Rattle.bpg_cmyk.proofs.plane.complement_plane.Tie as tie
 
-abbrev invariant-loop : tie.invariant-loop
+abbrev invariant-loop : tie.invariant-loop-i
 invariant-loop plane m out₀ i₀ out i = Filled (length plane) (map (complement m) plane) out i
 
-abbrev decreases-loop : tie.decreases-loop
+abbrev decreases-loop : tie.decreases-loop-i
 decreases-loop plane m out₀ i₀ out i = length plane - i
 
-sub_out : tie.Need-overflow-sub-out invariant-loop decreases-loop
-sub_out c = omega (arith, at-most-largest c.before.before.before.args.plane.now c.before.before.loop.i)
+sub_out : tie.Need-overflow_sub-out invariant-loop decreases-loop
+sub_out c = omega (arith, at-most-largest c.args.plane.now c.loop-i.i)
 
-loop-again : tie.Need-loop-preserved invariant-loop decreases-loop
+loop-again : tie.Need-loop-i-preserved invariant-loop decreases-loop
 unfolding complement
 loop-again c =
-    let l = c.before.before.loop in
-    let a = c.before.before.before.args in
+    let l = c.loop-i in
+    let a = c.args in
     map_next (complement a.m) a.plane.now _ l.i l.invariant _ refl (omega arith)
 
-pub complement-plane-spec : {M : Type 1} → statement M
-complement-plane-spec =
+pub complement_plane_spec : {M : Type 1} → statement M
+complement_plane_spec =
     tie.close
     (tie.spec
     invariant-loop decreases-loop (λ c. search fill_begins) (λ c. omega arith) (λ c. omega arith) sub_out (λ c. omega arith) (λ c. omega arith)

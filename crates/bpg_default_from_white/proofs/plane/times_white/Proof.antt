@@ -16,14 +16,14 @@ module _ (c : tie.Start) where
 returns : tie.Need-returns
 returns c = search shifts
 
-cast-result : tie.Need-overflow-cast-result
+cast-result : tie.Need-overflow_cast-result-3
 cast-result c =
     let a = c.args in
     let p = c.requires in
     omega (arith, shifts a.depth a.r a.w a.half p.0 p.1 p.2 p.3 p.4, white-high a.depth a.r a.w a.half p.0 p.1 p.2 p.3 p.4)
 
-pub times-white-spec : {M : Type 1} → statement M
-times-white-spec =
+pub times_white_spec : {M : Type 1} → statement M
+times_white_spec =
     tie.close
     (tie.spec
     (λ c. omega (arith, below c))

@@ -6,8 +6,7 @@ use Rattle.bpg_head_call.proofs.call.head.Tie as tie
 
 returns : tie.Need-returns
 returns c =
-    let r = c.before in
-    rw c.coded.ensures (without-places _ r.read.result r.read.ensures)
+    rw c.coded-head.ensures (without-places _ c.read-reading.result c.read-reading.ensures)
 
 pub head_spec : {M : Type 1} → statement M
 head_spec = tie.close (tie.spec (λ c κs. search rules) (λ c κs. search rules) returns)

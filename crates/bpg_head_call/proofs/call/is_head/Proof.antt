@@ -10,31 +10,31 @@ use Rattle.bpg_head_rules.proofs.CallLaws.{shorter, twelve-same}
 use Rattle.bpg_head_call.proofs.call.is_head.Statement.{statement}
 use Rattle.bpg_head_call.proofs.call.is_head.Tie as tie
 
-abbrev invariant-loop : tie.invariant-loop
+abbrev invariant-loop : tie.invariant-loop-i
 invariant-loop list numbers all₀ i₀ all i = (i ≤ 12) × (all ≡ same (take i list) (take i numbers))
 
-abbrev decreases-loop : tie.decreases-loop
+abbrev decreases-loop : tie.decreases-loop-i
 decreases-loop list numbers all₀ i₀ all i = 12 - i
 
-returns : tie.Need-returns invariant-loop decreases-loop
-returns c = shorter _ _ c.if1.true
+returns : tie.Need-returns-then-list-lt-HEAD_NUMBERS invariant-loop decreases-loop
+returns c = shorter _ _ c.if-list-lt-HEAD_NUMBERS.true
 
-loop-again : tie.Need-loop-preserved invariant-loop decreases-loop
+loop-again : tie.Need-loop-i-preserved invariant-loop decreases-loop
 loop-again c =
-    let l = c.before.before.loop in
-    let n = c.before.before.before.head-numbers in
-    let a = c.before.before.before.before.before.before.args in
+    let l = c.loop-i in
+    let n = c.head_numbers-numbers in
+    let a = c.args in
     (omega arith, rw l.invariant.1 (sym (one_more a.list.now n.result l.i (omega arith) (omega arith))))
 
-returns-2 : tie.Need-returns-2 invariant-loop decreases-loop
+returns-2 : tie.Need-returns invariant-loop decreases-loop
 returns-2 c =
-    let l = c.before.loop in
-    let n = c.before.before.head-numbers in
-    let a = c.before.before.before.before.before.args in
+    let l = c.loop-i in
+    let n = c.head_numbers-numbers in
+    let a = c.args in
     l.invariant.1 ∙ rw n.ensures (twelve-same a.list.now a.head l.i (omega arith))
 
-pub is-head-spec : {M : Type 1} → statement M
-is-head-spec =
+pub is_head_spec : {M : Type 1} → statement M
+is_head_spec =
     tie.close
     (tie.spec
     invariant-loop

@@ -4,14 +4,14 @@ use borrow.Author.Rules.{rules}
 use Rattle.bpg_header_rules.proofs.rules.allowed.Statement.{statement}
 use Rattle.bpg_header_rules.proofs.rules.allowed.Tie as tie
 
-returns : tie.Need-returns
-returns c = with-pcm _ _ _ c.before.before.smaller.ensures _ c.before.if1.true c.pcm-allowed.ensures
+returns : tie.Need-returns-then-h
+returns c = with-pcm _ _ _ c.smaller.ensures _ c.if-h.true c.pcm_allowed.ensures
 
-returns-2 : tie.Need-returns-2
-returns-2 c = without-pcm _ _ _ c.before.smaller.ensures c.if1.false
+returns-2 : tie.Need-returns
+returns-2 c = without-pcm _ _ _ c.smaller.ensures c.if-h.false
 
-pub allowed-spec : {M : Type 1} → statement M
-allowed-spec =
+pub allowed_spec : {M : Type 1} → statement M
+allowed_spec =
     tie.close
     (tie.spec
     (λ c. search rules) (λ c. search rules) (λ c. search rules) (λ c. search rules) (λ c. search rules)

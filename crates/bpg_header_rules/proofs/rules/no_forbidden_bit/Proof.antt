@@ -9,8 +9,8 @@ returns : tie.Need-returns
 unfolding no_forbidden_bit
 returns c = simp and_assoc
 
-pub no-forbidden-bit-spec : {M : Type 1} → statement M
-no-forbidden-bit-spec =
+pub no_forbidden_bit_spec : {M : Type 1} → statement M
+no_forbidden_bit_spec =
     tie.close
     (tie.spec
     (λ c. search rules) (λ c. search rules) (λ c. search rules) (λ c. search rules) returns)

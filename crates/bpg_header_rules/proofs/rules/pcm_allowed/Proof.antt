@@ -5,10 +5,10 @@ use Rattle.bpg_header_rules.proofs.rules.pcm_allowed.Statement.{statement}
 use Rattle.bpg_header_rules.proofs.rules.pcm_allowed.Tie as tie
 
 returns : tie.Need-returns
-returns c = pcm-tests _ _ _ c.smaller2.ensures _ c.before.smaller.ensures
+returns c = pcm-tests _ _ _ c.smaller-2.ensures _ c.smaller.ensures
 
-pub pcm-allowed-spec : {M : Type 1} → statement M
-pcm-allowed-spec =
+pub pcm_allowed_spec : {M : Type 1} → statement M
+pcm_allowed_spec =
     tie.close
     (tie.spec
     (λ c. search rules) (λ c. search rules) (λ c. search rules) (λ c. search rules) (λ c. search rules)

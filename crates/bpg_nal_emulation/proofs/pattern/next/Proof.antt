@@ -9,32 +9,31 @@ use Rattle.bpg_nal_emulation.proofs.PatternLaws.{past_end, found_at, step-most, 
 use Rattle.bpg_nal_emulation.proofs.pattern.next.Statement.{statement}
 use Rattle.bpg_nal_emulation.proofs.pattern.next.Tie as tie
 
-abbrev invariant-loop : tie.invariant-loop
+abbrev invariant-loop : tie.invariant-loop-end
 invariant-loop bytes end last i₀ i = offset_from starts_pattern bytes i₀ ≡ offset_from starts_pattern bytes i
 
-abbrev decreases-loop : tie.decreases-loop
+abbrev decreases-loop : tie.decreases-loop-end
 decreases-loop bytes end last i₀ i = length bytes - i
 
-reached : (c : tie.After-past-high invariant-loop decreases-loop) → let b = c.before.before.before.before.args.bytes.now in
-    offset_from starts_pattern b c.before.before.before.before.args.from.0 ≡ offset_from starts_pattern b c.past-high.result
-reached c = c.before.loop.invariant ∙ c.past-high.ensures.1
+reached : (c : tie.After-past_high-at invariant-loop decreases-loop) → let b = c.args.bytes.now in
+    offset_from starts_pattern b c.args.from.0 ≡ offset_from starts_pattern b c.past_high-at.result
+reached c = c.loop-end.invariant ∙ c.past_high-at.ensures.1
 
-returns-2 : tie.Need-returns-2 invariant-loop decreases-loop
+returns-2 : tie.Need-returns-then-last-at invariant-loop decreases-loop
 returns-2 c = past_end _ _ (omega arith) ∙ sym (reached c.before)
 
-returns-3 : tie.Need-returns-3 invariant-loop decreases-loop
-returns-3 c = let p = c.before.before.before.before.before in found_at _ _ (omega arith) c.if3.true ∙ sym (reached p)
+returns-3 : tie.Need-returns-then-bytes-at invariant-loop decreases-loop
+returns-3 c = found_at _ _ (omega arith) c.if-bytes-at.true ∙ sym (reached c.before.before.before.before.before)
 
-add-i-3 : tie.Need-overflow-add-i-3 invariant-loop decreases-loop
+add-i-3 : tie.Need-overflow_add-i-in-loop-end-2 invariant-loop decreases-loop
 add-i-3 c =
-    let p = c.before.before.before.before.before.before in
-    omega (arith, step-most p.before.before.before.before.args.bytes.now p.past-high.result)
+    omega (arith, step-most c.args.bytes.now c.past_high-at.result)
 
-loop-again : tie.Need-loop-preserved invariant-loop decreases-loop
-loop-again c = reached c.before.before.before.before.before.before ∙ step-on _ _ (omega arith) c.before.if3.false
+loop-again : tie.Need-loop-end-preserved invariant-loop decreases-loop
+loop-again c = reached c.before.before.before.before.before.before ∙ step-on _ _ (omega arith) c.if-bytes-at.false
 
-pub next-spec : {M : Type 1} → statement M
-next-spec =
+pub next_spec : {M : Type 1} → statement M
+next_spec =
     tie.close
     (tie.spec
     invariant-loop

@@ -5,18 +5,18 @@ use Rattle.bpg_nal_escape.proofs.EndingLaws.{ends-few, ends-other, ends_last}
 use Rattle.bpg_nal_escape.proofs.escaping.ends_open.Statement.{statement}
 use Rattle.bpg_nal_escape.proofs.escaping.ends_open.Tie as tie
 
-returns-3 : tie.Need-returns-3
-returns-3 c = let a = c.before.before.before.before.args in ends-other a.bytes.now a.from.0 (omega arith) c.if3.true
+returns-3 : tie.Need-returns-then-bytes-end-ne0
+returns-3 c = let a = c.args in ends-other a.bytes.now a.from.0 (omega arith) c.if-bytes-end-ne0.true
 
-returns-4 : tie.Need-returns-4
-returns-4 c = let a = c.before.before.before.before.before.args in ends_last a.bytes.now a.from.0 (omega arith) c.before.if3.false
+returns-4 : tie.Need-returns
+returns-4 c = let a = c.args in ends_last a.bytes.now a.from.0 (omega arith) c.if-bytes-end-ne0.false
 
-pub ends-open-spec : {M : Type 1} → statement M
-ends-open-spec =
+pub ends_open_spec : {M : Type 1} → statement M
+ends_open_spec =
     tie.close
     (tie.spec
-    (λ c. ends-few c.before.args.bytes.now c.before.args.from.0 (omega arith))
-    (λ c. ends-few c.before.before.args.bytes.now c.before.before.args.from.0 (omega arith))
+    (λ c. ends-few c.args.bytes.now c.args.from.0 (omega arith))
+    (λ c. ends-few c.args.bytes.now c.args.from.0 (omega arith))
     (λ c. search rules)
     returns-3
     (λ c. search rules)

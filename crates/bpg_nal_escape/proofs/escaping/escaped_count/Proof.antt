@@ -10,42 +10,39 @@ use Rattle.bpg_nal_emulation.proofs.OffsetLaws.{room, es-count-last, es-count-on
 use Rattle.bpg_nal_escape.proofs.escaping.escaped_count.Statement.{statement}
 use Rattle.bpg_nal_escape.proofs.escaping.escaped_count.Tie as tie
 
-abbrev invariant-loop : tie.invariant-loop
+abbrev invariant-loop : tie.invariant-loop-marks
 invariant-loop bytes marks₀ i₀ marks i = (i ≤ length bytes) × (marks ≤ i) × (length (escape bytes) ≡ i + marks + length (escape (drop i bytes)))
 
-abbrev decreases-loop : tie.decreases-loop
+abbrev decreases-loop : tie.decreases-loop-marks
 decreases-loop bytes marks₀ i₀ marks i = length bytes - i
 
-abbrev bytes_of : tie.After-next invariant-loop decreases-loop → List ℕ
-bytes_of n = n.before.before.before.args.bytes.now
+abbrev bytes_of : tie.After-next-at invariant-loop decreases-loop → List ℕ
+bytes_of n = n.args.bytes.now
 
-at-pattern : (c : tie.Else1 invariant-loop decreases-loop) → (c.before.before.loop.i ≤ c.before.next.result.0) × (c.before.next.result.0 + 3 ≤ length (bytes_of c.before))
-at-pattern c = let n = c.before in room (bytes_of n) n.before.loop.i _ n.before.loop.invariant.0 n.next.ensures c.if1.false
+at-pattern : (c : tie.Else-bytes-at invariant-loop decreases-loop) → (c.loop-marks.i ≤ c.next-at.result.0) × (c.next-at.result.0 + 3 ≤ length (bytes_of c.before))
+at-pattern c = room (bytes_of c.before) c.loop-marks.i _ c.loop-marks.invariant.0 c.next-at.ensures c.if-bytes-at.false
 
-returns : tie.Need-returns invariant-loop decreases-loop
+returns : tie.Need-returns-then-ends_open invariant-loop decreases-loop
 returns c =
-    let n = c.before.before.before in
-    let l = n.before.loop in
-    let u = bytes_of n in
-    (es-count-last u l.i _ l.invariant.0 n.next.ensures (length (escape u)) l.marks c.before.before.if1.true l.invariant.2 _ c.before.ends_open.ensures).0 c.if2.true
+    let l = c.loop-marks in
+    let u = bytes_of c.before.before.before in
+    (es-count-last u l.i _ l.invariant.0 c.next-at.ensures (length (escape u)) l.marks c.if-bytes-at.true l.invariant.2 _ c.ends_open.ensures).0 c.if-ends_open.true
 
-returns-2 : tie.Need-returns-2 invariant-loop decreases-loop
+returns-2 : tie.Need-returns-then-bytes-at invariant-loop decreases-loop
 returns-2 c =
-    let n = c.before.before.before in
-    let l = n.before.loop in
-    let u = bytes_of n in
-    (es-count-last u l.i _ l.invariant.0 n.next.ensures (length (escape u)) l.marks c.before.before.if1.true l.invariant.2 _ c.before.ends_open.ensures).1 c.if2.false
+    let l = c.loop-marks in
+    let u = bytes_of c.before.before.before in
+    (es-count-last u l.i _ l.invariant.0 c.next-at.ensures (length (escape u)) l.marks c.if-bytes-at.true l.invariant.2 _ c.ends_open.ensures).1 c.if-ends_open.false
 
-loop-again : tie.Need-loop-preserved invariant-loop decreases-loop
+loop-again : tie.Need-loop-marks-preserved invariant-loop decreases-loop
 loop-again c =
-    let n = c.before in
-    let l = n.before.loop in
-    let u = bytes_of n in
+    let l = c.loop-marks in
+    let u = bytes_of c.before in
     let r = at-pattern c in
-    (omega arith, omega arith, es-count-on u l.i _ l.invariant.0 n.next.ensures (length (escape u)) l.marks c.if1.false l.invariant.2)
+    (omega arith, omega arith, es-count-on u l.i _ l.invariant.0 c.next-at.ensures (length (escape u)) l.marks c.if-bytes-at.false l.invariant.2)
 
-pub escaped-count-spec : {M : Type 1} → statement M
-escaped-count-spec =
+pub escaped_count_spec : {M : Type 1} → statement M
+escaped_count_spec =
     tie.close
     (tie.spec
     invariant-loop

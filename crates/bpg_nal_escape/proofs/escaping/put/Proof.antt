@@ -13,11 +13,11 @@ use Rattle.bpg_nal_escape.proofs.BufferLaws.{filled, Filling, begun, length-fill
 use Rattle.bpg_nal_escape.proofs.escaping.put.Statement.{statement}
 use Rattle.bpg_nal_escape.proofs.escaping.put.Tie as tie
 
-abbrev invariant-loop : tie.invariant-loop
+abbrev invariant-loop : tie.invariant-loop-left
 invariant-loop bytes marks out₀ filled₀ i₀ left₀ out at i left =
     (i ≤ length bytes) × (i + length (escape (drop i bytes)) ≡ length bytes + left) × Filling (escape bytes) (escape (drop i bytes)) out₀ out at.0
 
-abbrev decreases-loop : tie.decreases-loop
+abbrev decreases-loop : tie.decreases-loop-left
 decreases-loop bytes marks out₀ filled₀ i₀ left₀ out at i left = left
 
 module _ (u out₀ out : List ℕ) (i at : ℕ) (h : i ≤ length u) (space : length (escape u) ≤ length out₀) (f : Filling (escape u) (escape (drop i u)) out₀ out at) where
@@ -51,69 +51,52 @@ module _ (u out₀ out : List ℕ) (i at : ℕ) (h : i ≤ length u) (space : le
       more after w end n =
           filling-more f space (front ++ (3 ∷ [])) (escape (drop (p + 2) u)) (es-on u i p h e k) after w end (n ∙ omega (arith, length-append front (3 ∷ [])))
 
-abbrev bytes_of : tie.After-next invariant-loop decreases-loop → List ℕ
-bytes_of n = n.before.before.before.before.before.args.bytes.now
+abbrev bytes_of : tie.After-next-at invariant-loop decreases-loop → List ℕ
+bytes_of n = n.args.bytes.now
 
-at-pattern : (c : tie.Else1 invariant-loop decreases-loop)
-    → (c.before.before.before.loop.i ≤ c.before.next.result.0) × (c.before.next.result.0 + 3 ≤ length (bytes_of c.before))
-at-pattern c = let n = c.before in let l = n.before.before.loop in room (bytes_of n) l.i _ l.invariant.0 n.next.ensures c.if1.false
+at-pattern : (c : tie.Else-bytes-at invariant-loop decreases-loop)
+    → (c.loop-left.i ≤ c.next-at.result.0) × (c.next-at.result.0 + 3 ≤ length (bytes_of c.before))
+at-pattern c = let l = c.loop-left in room (bytes_of c.before) l.i _ l.invariant.0 c.next-at.ensures c.if-bytes-at.false
 
-put-marked-requires : tie.Need-put-marked-requires invariant-loop decreases-loop
+put-marked-requires : tie.Need-put_marked-requires invariant-loop decreases-loop
 put-marked-requires c κs =
-    let t = c.before.before in
-    let n = t.before in
-    let l = n.before.before.loop in
-    open-room (bytes_of n) _ _ l.i _ l.invariant.0 n.before.before.before.before.before.requires.1 l.invariant.2 _ n.next.ensures t.if1.true (omega arith)
+    let l = c.loop-left in
+    open-room (bytes_of c.before.before.before) _ _ l.i _ l.invariant.0 c.requires.1 l.invariant.2 _ c.next-at.ensures c.if-bytes-at.true (omega arith)
 
-same_length : tie.Need-same-length invariant-loop decreases-loop
+same_length : tie.Need-shape_of-out-then-bytes-at invariant-loop decreases-loop
 same_length c =
-    let w = c.before.before in
-    let l = w.before.before.before.before.before.before in
-    w.put-marked.auto.0 ∙ length-filling l.loop.invariant.2 l.before.before.before.requires.1
+    c.put_marked.auto.0 ∙ length-filling c.loop-left.invariant.2 c.requires.1
 
-returns : tie.Need-returns invariant-loop decreases-loop
+returns : tie.Need-returns-then-bytes-at invariant-loop decreases-loop
 returns c =
-    let w = c.before.before in
-    let t = w.before.before.before in
-    let n = t.before in
-    let l = n.before.before.loop in
-    open-last (bytes_of n) _ _ l.i _ l.invariant.0 n.before.before.before.before.before.requires.1 l.invariant.2 _ n.next.ensures t.if1.true (omega arith) _
-    w.put-marked.ensures.0
+    let l = c.loop-left in
+    open-last (bytes_of c.before.before.before.before.before.before) _ _ l.i _ l.invariant.0 c.requires.1 l.invariant.2 _ c.next-at.ensures c.if-bytes-at.true (omega arith) _
+    c.put_marked.ensures.0
 
-put-marked-requires-2 : tie.Need-put-marked-requires-2 invariant-loop decreases-loop
+put-marked-requires-2 : tie.Need-put_marked-filled-requires invariant-loop decreases-loop
 put-marked-requires-2 c κs =
-    let k = c.before.before in
-    let n = k.before in
-    let l = n.before.before.loop in
-    more_room (bytes_of n) _ _ l.i _ l.invariant.0 n.before.before.before.before.before.requires.1 l.invariant.2 _ n.next.ensures k.if1.false
+    let l = c.loop-left in
+    more_room (bytes_of c.before.before.before) _ _ l.i _ l.invariant.0 c.requires.1 l.invariant.2 _ c.next-at.ensures c.if-bytes-at.false
 
-loop-again : tie.Need-loop-preserved invariant-loop decreases-loop
+loop-again : tie.Need-loop-left-preserved invariant-loop decreases-loop
 loop-again c =
-    let w = c.before.before in
-    let k = w.before.before.before in
-    let n = k.before in
-    let l = n.before.before.loop in
-    let u = bytes_of n in
-    let r = at-pattern k in
-    let d = es-count-on u l.i _ l.invariant.0 n.next.ensures (l.i + length (escape (drop l.i u))) 0 k.if1.false (omega arith) in (
+    let l = c.loop-left in
+    let u = bytes_of c.before.before.before.before.before.before in
+    let r = at-pattern c.before.before.before.before.before in
+    let d = es-count-on u l.i _ l.invariant.0 c.next-at.ensures (l.i + length (escape (drop l.i u))) 0 c.if-bytes-at.false (omega arith) in (
       omega arith,
       omega arith,
-      more u _ _ l.i _ l.invariant.0 n.before.before.before.before.before.requires.1 l.invariant.2 _ n.next.ensures k.if1.false _
-          w.put-marked2.ensures.0 _ w.put-marked2.ensures.1,
+      more u _ _ l.i _ l.invariant.0 c.requires.1 l.invariant.2 _ c.next-at.ensures c.if-bytes-at.false _
+          c.put_marked-filled.ensures.0 _ c.put_marked-filled.ensures.1,
     )
 
-same-length-2 : tie.Need-same-length-2 invariant-loop decreases-loop
+same-length-2 : tie.Need-shape_of-out invariant-loop decreases-loop
 same-length-2 c =
-    let w = c.before.before in
-    let l = w.before.before.before.before in
-    w.write.auto.0 ∙ length-filling l.loop.invariant.2 l.before.before.before.requires.1
+    c.write.auto.0 ∙ length-filling c.loop-left.invariant.2 c.requires.1
 
-returns-2 : tie.Need-returns-2 invariant-loop decreases-loop
+returns-2 : tie.Need-returns invariant-loop decreases-loop
 returns-2 c =
-    let w = c.before.before in
-    let l = w.before.before.before.before in
-    let s = l.before.before.before in
-    last s.args.bytes.now _ _ l.loop.i _ l.loop.invariant.0 s.requires.1 l.loop.invariant.2 (omega arith) _ w.write.ensures.0
+    last c.args.bytes.now _ _ c.loop-left.i _ c.loop-left.invariant.0 c.requires.1 c.loop-left.invariant.2 (omega arith) _ c.write.ensures.0
 
 pub put_spec : {M : Type 1} → statement M
 put_spec =

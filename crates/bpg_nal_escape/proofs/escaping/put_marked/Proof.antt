@@ -9,23 +9,21 @@ use Rattle.bpg_nal_escape.proofs.escaping.put_marked.Statement.{statement}
 use Rattle.bpg_nal_escape.proofs.escaping.put_marked.Tie as tie
 
 -- the write fits
-inside : (c : tie.After-slice-known2) → c.before.before.write.result.0 < length c.before.before.write.new.0
+inside : (c : tie.After-slice_known-2-1) → c.write-mark.result.0 < length c.write-mark.new.0
 inside c =
-    let w = c.before.before in
-    let a = w.before.before.before.before.args in
-    end-inside a.out.now a.bytes.now _ a.at.0 _ 3 w.before.before.before.before.requires w.write.ensures.0 w.write.ensures.1
+    let a = c.args in
+    end-inside a.out.now a.bytes.now _ a.at.0 _ 3 c.requires c.write-mark.ensures.0 c.write-mark.ensures.1
 
 returns : tie.Need-returns
 returns c =
-    let w = c.before.before in
-    let a = w.before.before.before.before.args in
-    let h = w.before.before.before.before.requires in (
-      one_more a.out.now a.bytes.now _ a.at.0 _ 3 h w.write.ensures.0 w.write.ensures.1,
-      ap (λ (n : ℕ). n + 1) (end_is a.out.now a.bytes.now _ a.at.0 _ 3 h w.write.ensures.0 w.write.ensures.1),
+    let a = c.args in
+    let h = c.requires in (
+      one_more a.out.now a.bytes.now _ a.at.0 _ 3 h c.write-mark.ensures.0 c.write-mark.ensures.1,
+      ap (λ (n : ℕ). n + 1) (end_is a.out.now a.bytes.now _ a.at.0 _ 3 h c.write-mark.ensures.0 c.write-mark.ensures.1),
     )
 
-pub put-marked-spec : {M : Type 1} → statement M
-put-marked-spec =
+pub put_marked_spec : {M : Type 1} → statement M
+put_marked_spec =
     tie.close
     (tie.spec
     (λ c κs. search rules)

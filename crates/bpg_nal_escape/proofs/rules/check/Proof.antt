@@ -14,12 +14,12 @@ use Rattle.bpg_nal_emulation.proofs.OffsetLaws.{room, keeps-last, keeps-not-mark
 use Rattle.bpg_nal_escape.proofs.rules.check.Statement.{statement}
 use Rattle.bpg_nal_escape.proofs.rules.check.Tie as tie
 
-abbrev invariant-loop : tie.invariant-loop
+abbrev invariant-loop : tie.invariant-loop-marks
 invariant-loop unit marks₀ i₀ marks i =
     (i ≤ length unit) × (marks ≤ i) × (keeps_rules unit ≡ keeps_rules (drop i unit))
     × (length (unescape unit) + marks ≡ i + length (unescape (drop i unit)))
 
-abbrev decreases-loop : tie.decreases-loop
+abbrev decreases-loop : tie.decreases-loop-marks
 decreases-loop unit marks₀ i₀ marks i = length unit - i
 
 module _ (u : List ℕ) where
@@ -29,50 +29,46 @@ module _ (u : List ℕ) where
   broken : keeps_rules u ≡ false → ◌≡◌ {A = Checked} (record { kept = false; count = 0 }) (check_of u)
   broken e = rw e (ap (λ (k : ℕ). record { kept = false; count = k }) (sym (select-false _ _ refl)))
 
-abbrev unit_of : tie.After-next invariant-loop decreases-loop → List ℕ
-unit_of n = n.before.before.before.args.unit.now
+abbrev unit_of : tie.After-next-at invariant-loop decreases-loop → List ℕ
+unit_of n = n.args.unit.now
 
-at-pattern : (c : tie.Else1 invariant-loop decreases-loop) → (c.before.before.loop.i ≤ c.before.next.result.0) × (c.before.next.result.0 + 3 ≤ length (unit_of c.before))
-at-pattern c = let n = c.before in room (unit_of n) n.before.loop.i _ n.before.loop.invariant.0 n.next.ensures c.if1.false
+at-pattern : (c : tie.Else-unit-at invariant-loop decreases-loop) → (c.loop-marks.i ≤ c.next-at.result.0) × (c.next-at.result.0 + 3 ≤ length (unit_of c.before))
+at-pattern c = room (unit_of c.before) c.loop-marks.i _ c.loop-marks.invariant.0 c.next-at.ensures c.if-unit-at.false
 
-returns : tie.Need-returns invariant-loop decreases-loop
+returns : tie.Need-returns-then-unit-at invariant-loop decreases-loop
 returns c =
-    let n = c.before in
-    let l = n.before.loop in
-    let u = unit_of n in
-    kept u _ (l.invariant.2 ∙ keeps-last u l.i _ l.invariant.0 n.next.ensures c.if1.true)
-    (un-count-last u l.i _ l.invariant.0 n.next.ensures (length (unescape u)) l.marks c.if1.true l.invariant.3)
+    let l = c.loop-marks in
+    let u = unit_of c.before in
+    kept u _ (l.invariant.2 ∙ keeps-last u l.i _ l.invariant.0 c.next-at.ensures c.if-unit-at.true)
+    (un-count-last u l.i _ l.invariant.0 c.next-at.ensures (length (unescape u)) l.marks c.if-unit-at.true l.invariant.3)
 
-returns-2 : tie.Need-returns-2 invariant-loop decreases-loop
+returns-2 : tie.Need-returns-then-unit-at-ne3 invariant-loop decreases-loop
 returns-2 c =
     let n = c.before.before.before in
-    let l = n.before.loop in
-    broken (unit_of n) (l.invariant.2 ∙ keeps-not-mark (unit_of n) l.i _ l.invariant.0 n.next.ensures c.before.before.if1.false c.if2.true)
+    let l = c.loop-marks in
+    broken (unit_of n) (l.invariant.2 ∙ keeps-not-mark (unit_of n) l.i _ l.invariant.0 c.next-at.ensures c.if-unit-at.false c.if-unit-at-ne3.true)
 
-returns-3 : tie.Need-returns-3 invariant-loop decreases-loop
+returns-3 : tie.Need-returns-then-byte_at-gt3 invariant-loop decreases-loop
 returns-3 c =
-    let b = c.before.before in
-    let n = b.before.before.before in
-    let l = n.before.loop in
-    let next = rw c.before.byte_at.ensures at c.if3.true in
-    broken (unit_of n) (l.invariant.2 ∙ keeps-bad (unit_of n) l.i _ l.invariant.0 n.next.ensures b.before.before.if1.false b.if2.false next)
+    let n = c.before.before.before.before.before in
+    let l = c.loop-marks in
+    let next = rw c.byte_at.ensures at c.if-byte_at-gt3.true in
+    broken (unit_of n) (l.invariant.2 ∙ keeps-bad (unit_of n) l.i _ l.invariant.0 c.next-at.ensures c.if-unit-at.false c.if-unit-at-ne3.false next)
 
-loop-again : tie.Need-loop-preserved invariant-loop decreases-loop
+loop-again : tie.Need-loop-marks-preserved invariant-loop decreases-loop
 loop-again c =
-    let b = c.before.before in
-    let k = b.before.before in
-    let n = k.before in
-    let l = n.before.loop in
-    let r = at-pattern k in
-    let next = rw c.before.byte_at.ensures at c.if3.false in (
+    let n = c.before.before.before.before.before in
+    let l = c.loop-marks in
+    let r = at-pattern c.before.before.before.before in
+    let next = rw c.byte_at.ensures at c.if-byte_at-gt3.false in (
       r.1,
       omega arith,
-      l.invariant.2 ∙ keeps_on (unit_of n) l.i _ l.invariant.0 n.next.ensures k.if1.false b.if2.false next,
-      un-count-on (unit_of n) l.i _ l.invariant.0 n.next.ensures (length (unescape (unit_of n))) l.marks k.if1.false b.if2.false l.invariant.3,
+      l.invariant.2 ∙ keeps_on (unit_of n) l.i _ l.invariant.0 c.next-at.ensures c.if-unit-at.false c.if-unit-at-ne3.false next,
+      un-count-on (unit_of n) l.i _ l.invariant.0 c.next-at.ensures (length (unescape (unit_of n))) l.marks c.if-unit-at.false c.if-unit-at-ne3.false l.invariant.3,
     )
 
-pub check-spec : {M : Type 1} → statement M
-check-spec =
+pub check_spec : {M : Type 1} → statement M
+check_spec =
     tie.close
     (tie.spec
     invariant-loop

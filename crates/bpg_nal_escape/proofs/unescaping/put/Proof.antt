@@ -15,12 +15,12 @@ use Rattle.bpg_nal_escape.proofs.BufferLaws.{filled, Filling, begun, length-fill
 use Rattle.bpg_nal_escape.proofs.unescaping.put.Statement.{statement}
 use Rattle.bpg_nal_escape.proofs.unescaping.put.Tie as tie
 
-abbrev invariant-loop : tie.invariant-loop
+abbrev invariant-loop : tie.invariant-loop-left
 invariant-loop unit marks out₀ filled₀ i₀ left₀ out at i left =
     (i ≤ length unit) × (keeps_rules (drop i unit) ≡ true) × (i + length (unescape (drop i unit)) + left ≡ length unit)
     × Filling (unescape unit) (unescape (drop i unit)) out₀ out at.0
 
-abbrev decreases-loop : tie.decreases-loop
+abbrev decreases-loop : tie.decreases-loop-left
 decreases-loop unit marks out₀ filled₀ i₀ left₀ out at i left = left
 
 module _ (u out₀ out after : List ℕ) (i at : ℕ) (h : i ≤ length u) (space : length (unescape u) ≤ length out₀)
@@ -37,43 +37,37 @@ module _ (u out₀ out after : List ℕ) (i at : ℕ) (h : i ≤ length u) (spac
         let rest = unescape (drop (p + 3) u) in
         filling-more f space piece rest split after w end (n ∙ sym (stored out at piece (fits f space piece rest split)).1)
 
-abbrev unit_of : tie.After-next invariant-loop decreases-loop → List ℕ
-unit_of n = n.before.before.before.before.before.args.unit.now
+abbrev unit_of : tie.After-next-at invariant-loop decreases-loop → List ℕ
+unit_of n = n.args.unit.now
 
-marked : (n : tie.After-next invariant-loop decreases-loop) → n.next.result.0 < length (unit_of n)
-marked n = let l = n.before.before.loop in un-some (unit_of n) l.i _ l.invariant.0 n.next.ensures (omega arith)
+marked : (n : tie.After-next-at invariant-loop decreases-loop) → n.next-at.result.0 < length (unit_of n)
+marked n = let l = n.loop-left in un-some (unit_of n) l.i _ l.invariant.0 n.next-at.ensures (omega arith)
 
-at-pattern : (n : tie.After-next invariant-loop decreases-loop) → (n.before.before.loop.i ≤ n.next.result.0) × (n.next.result.0 + 3 ≤ length (unit_of n))
-at-pattern n = let l = n.before.before.loop in room (unit_of n) l.i _ l.invariant.0 n.next.ensures (marked n)
+at-pattern : (n : tie.After-next-at invariant-loop decreases-loop) → (n.loop-left.i ≤ n.next-at.result.0) × (n.next-at.result.0 + 3 ≤ length (unit_of n))
+at-pattern n = let l = n.loop-left in room (unit_of n) l.i _ l.invariant.0 n.next-at.ensures (marked n)
 
-loop-again : tie.Need-loop-preserved invariant-loop decreases-loop
+loop-again : tie.Need-loop-left-preserved invariant-loop decreases-loop
 loop-again c =
-    let w = c.before.before in
-    let n = w.before.before.before in
-    let l = n.before.before.loop in
+    let n = c.before.before.before.before.before in
+    let l = c.loop-left in
     let u = unit_of n in
-    let m = kept-mark u l.i _ l.invariant.0 n.next.ensures (marked n) l.invariant.1 in
+    let m = kept-mark u l.i _ l.invariant.0 c.next-at.ensures (marked n) l.invariant.1 in
     let r = at-pattern n in
-    let d = un-count-on u l.i _ l.invariant.0 n.next.ensures (l.i + length (unescape (drop l.i u))) 0 (marked n) m.0 (omega arith) in (
+    let d = un-count-on u l.i _ l.invariant.0 c.next-at.ensures (l.i + length (unescape (drop l.i u))) 0 (marked n) m.0 (omega arith) in (
       omega arith,
       m.1,
       omega arith,
-      more u _ _ _ l.i _ l.invariant.0 n.before.before.before.before.before.requires.1.1 l.invariant.3 _ n.next.ensures (marked n) m.0
-          w.write.ensures.0 _ w.write.ensures.1,
+      more u _ _ _ l.i _ l.invariant.0 c.requires.1.1 l.invariant.3 _ c.next-at.ensures (marked n) m.0
+          c.write-filled.ensures.0 _ c.write-filled.ensures.1,
     )
 
-same_length : tie.Need-same-length invariant-loop decreases-loop
+same_length : tie.Need-shape_of-out invariant-loop decreases-loop
 same_length c =
-    let w = c.before.before in
-    let l = w.before.before.before.before in
-    w.write2.auto.0 ∙ length-filling l.loop.invariant.3 l.before.before.before.requires.1.1
+    c.write.auto.0 ∙ length-filling c.loop-left.invariant.3 c.requires.1.1
 
 returns : tie.Need-returns invariant-loop decreases-loop
 returns c =
-    let w = c.before.before in
-    let l = w.before.before.before.before in
-    let s = l.before.before.before in
-    last s.args.unit.now _ _ _ l.loop.i _ l.loop.invariant.0 s.requires.1.1 l.loop.invariant.3 (omega arith) w.write2.ensures.0
+    last c.args.unit.now _ _ _ c.loop-left.i _ c.loop-left.invariant.0 c.requires.1.1 c.loop-left.invariant.3 (omega arith) c.write.ensures.0
 
 pub put_spec : {M : Type 1} → statement M
 put_spec =
@@ -81,7 +75,7 @@ put_spec =
     (tie.spec
     invariant-loop
     decreases-loop
-    (λ c. (omega arith, c.before.before.requires.0, omega arith, begun _ _))
+    (λ c. (omega arith, c.requires.0, omega arith, begun _ _))
     (λ c κs. search rules)
     (λ c. omega (arith, at-pattern c.before))
     (λ c. omega (arith, at-pattern c.before))

@@ -11,38 +11,32 @@ use Rattle.bpg_nal_escape.proofs.CallLaws.{un-broken, un-judged, un-small, un-do
 use Rattle.bpg_nal_escape.proofs.unescaping.unescape.Statement.{statement}
 use Rattle.bpg_nal_escape.proofs.unescaping.unescape.Tie as tie
 
-returns : tie.Need-returns
+returns : tie.Need-returns-then-not-checked
 returns c =
-    let k = c.before.before.before in
-    let s = k.before.before.before.args in
-    let a = un-broken s.unit.now s.out.now _ k.check.ensures (not-true _ c.before.if1.true) in
-    (c.written-refused.ensures ∙ a.0, a.1)
+    let s = c.args in
+    let a = un-broken s.unit.now s.out.now _ c.check-checked.ensures (c.if-not-checked.true) in
+    (c.written_refused.ensures ∙ a.0, a.1)
 
-returns-2 : tie.Need-returns-2
+returns-2 : tie.Need-returns-then-out-checked
 returns-2 c =
-    let b = c.before.before.before in
-    let k = b.before.before in
-    let s = k.before.before.before.args in
-    let a = un-small s.unit.now s.out.now _ k.check.ensures (not-false _ b.if1.false) c.before.if2.true in
-    (c.written-refused2.ensures ∙ a.0, a.1)
+    let s = c.args in
+    let a = un-small s.unit.now s.out.now _ c.check-checked.ensures (c.if-not-checked.false) c.if-out-checked.true in
+    (c.written_refused-then-out-checked.ensures ∙ a.0, a.1)
 
-judged : (b : tie.Else1) → let k = b.before.before in let u = k.before.before.before.args.unit.now in
-    (keeps_rules u ≡ true) × (k.check.result.count ≡ length (unescape u)) × (k.check.result.count ≤ length u)
-judged b = let k = b.before.before in let s = k.before.before.before.args in un-judged s.unit.now s.out.now _ k.check.ensures (not-false _ b.if1.false)
+judged : (b : tie.Else-not-checked) → let u = b.args.unit.now in
+    (keeps_rules u ≡ true) × (b.check-checked.result.count ≡ length (unescape u)) × (b.check-checked.result.count ≤ length u)
+judged b = let s = b.args in un-judged s.unit.now s.out.now _ b.check-checked.ensures (b.if-not-checked.false)
 
 put-requires : tie.Need-put-requires
 put-requires c κs = let j = judged c.before.before.before.before in (j.0, (omega arith, omega arith))
 
-returns-3 : tie.Need-returns-3
+returns-3 : tie.Need-returns
 returns-3 c =
-    let p = c.before.before in
-    let b = p.before.before.before.before.before in
-    let k = b.before.before in
-    let s = k.before.before.before.args in
-    un-done s.unit.now s.out.now _ k.check.ensures (not-false _ b.if1.false) _ p.before.before.before.if2.false p.put.ensures
+    let s = c.args in
+    un-done s.unit.now s.out.now _ c.check-checked.ensures (c.if-not-checked.false) _ c.if-out-checked.false c.put.ensures
 
-pub unescape-spec : {M : Type 1} → statement M
-unescape-spec =
+pub unescape_spec : {M : Type 1} → statement M
+unescape_spec =
     tie.close
     (tie.spec
     (λ c κs. search rules)

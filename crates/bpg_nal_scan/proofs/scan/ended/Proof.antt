@@ -22,21 +22,19 @@ module _ (d : List ℕ) (i past : ℕ) (e : past ≡ offset_from not_zero d (i +
     code : get_or d past 0 ≡ 1 → kept_scan i (past - 2) ≡ ended_at d i
     code k = rw e (sym (select-false _ _ (lt-leb _ _ (rw e at h)) ∙ select-true _ _ (eq-eqb _ _ (rw e at k))))
 
-returns : tie.Need-returns
-returns c = c.kept.ensures ∙ last _ _ _ c.before.before.zeros-end.ensures c.before.if1.true
+returns : tie.Need-returns-then-region-past
+returns c = c.kept.ensures ∙ last _ _ _ c.zeros_end-past.ensures c.if-region-past.true
 
-returns-2 : tie.Need-returns-2
+returns-2 : tie.Need-returns-then-region-past-ne1
 returns-2 c =
-    let b = c.before.before.before in
-    c.broken.ensures ∙ other _ _ _ b.before.zeros-end.ensures b.if1.false c.before.if2.true
+    c.broken.ensures ∙ other _ _ _ c.zeros_end-past.ensures c.if-region-past.false c.if-region-past-ne1.true
 
-returns-3 : tie.Need-returns-3
+returns-3 : tie.Need-returns
 returns-3 c =
-    let b = c.before.before.before in
-    c.kept2.ensures ∙ code _ _ _ b.before.zeros-end.ensures b.if1.false c.before.if2.false
+    c.kept-2.ensures ∙ code _ _ _ c.zeros_end-past.ensures c.if-region-past.false c.if-region-past-ne1.false
 
-pub ended-spec : {M : Type 1} → statement M
-ended-spec =
+pub ended_spec : {M : Type 1} → statement M
+ended_spec =
     tie.close
     (tie.spec
     (λ c. search rules)

@@ -12,58 +12,48 @@ use Rattle.bpg_nal_scan.proofs.ScanLaws.{scan-last, scan-ended, scan-high, scan-
 use Rattle.bpg_nal_scan.proofs.scan.scan_at.Statement.{statement}
 use Rattle.bpg_nal_scan.proofs.scan.scan_at.Tie as tie
 
-abbrev invariant-loop : tie.invariant-loop
+abbrev invariant-loop : tie.invariant-loop-end
 invariant-loop region end i₀ i = scan_at region i₀ ≡ scan_at region i
 
-abbrev decreases-loop : tie.decreases-loop
+abbrev decreases-loop : tie.decreases-loop-end
 decreases-loop region end i₀ i = length region - i
 
-abbrev region_of : tie.After-next invariant-loop decreases-loop → List ℕ
-region_of n = n.before.before.before.args.region.now
+abbrev region_of : tie.After-next-at invariant-loop decreases-loop → List ℕ
+region_of n = n.args.region.now
 
-abbrev within : (c : tie.Else1 invariant-loop decreases-loop) → c.before.before.loop.i ≤ length (region_of c.before)
-within c = let e = c.before.next.ensures in omega arith
+abbrev within : (c : tie.Else-end-at invariant-loop decreases-loop) → c.loop-end.i ≤ length (region_of c.before)
+within c = let e = c.next-at.ensures in omega arith
 
-at-pattern : (c : tie.Else1 invariant-loop decreases-loop)
-    → (c.before.before.loop.i ≤ c.before.next.result.0) × (c.before.next.result.0 + 3 ≤ length (region_of c.before))
-at-pattern c = let n = c.before in room (region_of n) n.before.loop.i _ (within c) n.next.ensures c.if1.false
+at-pattern : (c : tie.Else-end-at invariant-loop decreases-loop)
+    → (c.loop-end.i ≤ c.next-at.result.0) × (c.next-at.result.0 + 3 ≤ length (region_of c.before))
+at-pattern c = room (region_of c.before) c.loop-end.i _ (within c) c.next-at.ensures c.if-end-at.false
 
-returns : tie.Need-returns invariant-loop decreases-loop
+returns : tie.Need-returns-then-end-at invariant-loop decreases-loop
 returns c =
-    let b = c.before.before in
-    let n = b.before in
-    let l = n.before.loop in
-    c.kept.ensures ∙ scan-last (region_of n) l.i _ n.next.ensures b.if1.true _ c.before.trimmed.ensures ∙ sym l.invariant
+    let l = c.loop-end in
+    c.kept.ensures ∙ scan-last (region_of c.before.before.before) l.i _ c.next-at.ensures c.if-end-at.true _ c.trimmed.ensures ∙ sym l.invariant
 
-returns-2 : tie.Need-returns-2 invariant-loop decreases-loop
+returns-2 : tie.Need-returns-then-region-at-ne3 invariant-loop decreases-loop
 returns-2 c =
-    let k = c.before.before.before in
-    let n = k.before in
-    let l = n.before.loop in
+    let l = c.loop-end in
     c.ended.ensures
-    ∙ scan-ended (region_of n) l.i _ (within k) n.next.ensures k.if1.false c.before.if2.true ∙ sym l.invariant
+    ∙ scan-ended (region_of c.before.before.before.before) l.i _ (within c.before.before.before) c.next-at.ensures c.if-end-at.false c.if-region-at-ne3.true ∙ sym l.invariant
 
-returns-3 : tie.Need-returns-3 invariant-loop decreases-loop
+returns-3 : tie.Need-returns-then-byte_at-gt3 invariant-loop decreases-loop
 returns-3 c =
-    let b = c.before.before.before in
-    let k = b.before.before in
-    let n = k.before in
-    let l = n.before.loop in
-    let next = rw c.before.before.byte_at.ensures at c.before.if3.true in
+    let l = c.loop-end in
+    let next = rw c.byte_at.ensures at c.if-byte_at-gt3.true in
     c.broken.ensures
-    ∙ scan-high (region_of n) l.i _ (within k) n.next.ensures k.if1.false b.if2.false next ∙ sym l.invariant
+    ∙ scan-high (region_of c.before.before.before.before.before.before) l.i _ (within c.before.before.before.before.before) c.next-at.ensures c.if-end-at.false c.if-region-at-ne3.false next ∙ sym l.invariant
 
-loop-again : tie.Need-loop-preserved invariant-loop decreases-loop
+loop-again : tie.Need-loop-end-preserved invariant-loop decreases-loop
 loop-again c =
-    let b = c.before.before in
-    let k = b.before.before in
-    let n = k.before in
-    let l = n.before.loop in
-    let next = rw c.before.byte_at.ensures at c.if3.false in
-    l.invariant ∙ scan-on (region_of n) l.i _ (within k) n.next.ensures k.if1.false b.if2.false next
+    let l = c.loop-end in
+    let next = rw c.byte_at.ensures at c.if-byte_at-gt3.false in
+    l.invariant ∙ scan-on (region_of c.before.before.before.before.before) l.i _ (within c.before.before.before.before) c.next-at.ensures c.if-end-at.false c.if-region-at-ne3.false next
 
-pub scan-at-spec : {M : Type 1} → statement M
-scan-at-spec =
+pub scan_at_spec : {M : Type 1} → statement M
+scan_at_spec =
     tie.close
     (tie.spec
     invariant-loop

@@ -13,10 +13,10 @@ use Rattle.bpg_nal_emulation.proofs.PatternLaws.{first-at}
 use Rattle.bpg_nal_scan.proofs.scan.zeros_end.Statement.{statement}
 use Rattle.bpg_nal_scan.proofs.scan.zeros_end.Tie as tie
 
-abbrev invariant-loop : tie.invariant-loop
+abbrev invariant-loop : tie.invariant-loop-i
 invariant-loop region end i₀ i = offset_from not_zero region i₀ ≡ offset_from not_zero region i
 
-abbrev decreases-loop : tie.decreases-loop
+abbrev decreases-loop : tie.decreases-loop-i
 decreases-loop region end i₀ i = length region - i
 
 module _ (d : List ℕ) (i : ℕ) (h : i < length d) where
@@ -26,17 +26,17 @@ module _ (d : List ℕ) (i : ℕ) (h : i < length d) where
   other-here : (get_or d i 0 ≡ 0 → ⊥) → i ≡ offset_from not_zero d i
   other-here k = from-here not_zero d i h (ap not (ne_eqb _ _ (λ e. k (sym (first-at d i) ∙ e))))
 
-returns : tie.Need-returns invariant-loop decreases-loop
-returns c = other-here _ _ (omega arith) c.if1.true ∙ sym c.before.before.before.loop.invariant
+returns : tie.Need-returns-then-region-i-ne0 invariant-loop decreases-loop
+returns c = other-here _ _ (omega arith) c.if-region-i-ne0.true ∙ sym c.loop-i.invariant
 
-loop-again : tie.Need-loop-preserved invariant-loop decreases-loop
-loop-again c = c.before.before.before.loop.invariant ∙ zero-here _ _ (omega arith) c.if1.false
+loop-again : tie.Need-loop-i-preserved invariant-loop decreases-loop
+loop-again c = c.loop-i.invariant ∙ zero-here _ _ (omega arith) c.if-region-i-ne0.false
 
-returns-2 : tie.Need-returns-2 invariant-loop decreases-loop
-returns-2 c = from_end not_zero _ _ (omega arith) ∙ sym c.before.loop.invariant
+returns-2 : tie.Need-returns invariant-loop decreases-loop
+returns-2 c = from_end not_zero _ _ (omega arith) ∙ sym c.loop-i.invariant
 
-pub zeros-end-spec : {M : Type 1} → statement M
-zeros-end-spec =
+pub zeros_end_spec : {M : Type 1} → statement M
+zeros_end_spec =
     tie.close
     (tie.spec
     invariant-loop

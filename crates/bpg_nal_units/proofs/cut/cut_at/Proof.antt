@@ -14,7 +14,7 @@ both : (d : List ℕ) (i code end : ℕ) → code ≡ code_from d i → end ≡ 
 both d i code end e f = rw (f, e)
 
 returns : tie.Need-returns
-returns c = both _ _ _ _ c.before.next.ensures c.trimmed.ensures
+returns c = both _ _ _ _ c.next-code.ensures c.trimmed-end.ensures
 
-pub cut-at-spec : {M : Type 1} → statement M
-cut-at-spec = tie.close (tie.spec (λ c κs. search rules) (λ c κs. search rules) returns)
+pub cut_at_spec : {M : Type 1} → statement M
+cut_at_spec = tie.close (tie.spec (λ c κs. search rules) (λ c κs. search rules) returns)

@@ -16,10 +16,10 @@ use Rattle.bpg_nal_units.proofs.cut.trimmed.Tie as tie
 abbrev part : List ℕ → (start end : ℕ) → List ℕ
 part d start end = drop start (take end d)
 
-abbrev invariant-loop : tie.invariant-loop
+abbrev invariant-loop : tie.invariant-loop-end
 invariant-loop region start first end₀ end = (end ≤ length region) × (trim_zeros (part region first end₀) ≡ trim_zeros (part region first end))
 
-abbrev decreases-loop : tie.decreases-loop
+abbrev decreases-loop : tie.decreases-loop-end
 decreases-loop region start first end₀ end = end
 
 module _ (d : List ℕ) (start end : ℕ) where
@@ -48,29 +48,26 @@ module _ (d : List ℕ) (start end : ℕ) where
     kept-last e = rw (ap trim_zeros last_byte, trim-kept _ _ e, ← last_byte, length-drop, length-take) (omega arith)
 
 -- the loop begins with all that is to be trimmed
-start : (c : tie.After-least invariant-loop decreases-loop)
-    → let a = c.before.before.args in part a.region.now a.start.0 a.code.0 ≡ part a.region.now a.start.0 c.least.result
-start c = let a = c.before.before.args in begun a.region.now a.start.0 c.least.result a.code.0 c.least.ensures
+start : (c : tie.After-least-end invariant-loop decreases-loop)
+    → let a = c.args in part a.region.now a.start.0 a.code.0 ≡ part a.region.now a.start.0 c.least-end.result
+start c = let a = c.args in begun a.region.now a.start.0 c.least-end.result a.code.0 c.least-end.ensures
 
-returns : tie.Need-returns invariant-loop decreases-loop
+returns : tie.Need-returns-then-region-end-ne0 invariant-loop decreases-loop
 returns c =
-    let l = c.before.before.before in
-    rw (start l.before, l.loop.invariant.1) (kept-last _ _ _ (omega arith) (omega arith) c.if1.true)
+    rw (start c.before.before.before.before, c.loop-end.invariant.1) (kept-last _ _ _ (omega arith) (omega arith) c.if-region-end-ne0.true)
 
-loop-again : tie.Need-loop-preserved invariant-loop decreases-loop
+loop-again : tie.Need-loop-end-preserved invariant-loop decreases-loop
 loop-again c =
-    let l = c.before.before.before in
-    let a = l.before.before.before.args in
-    (omega arith, l.loop.invariant.1 ∙ zero-last a.region.now a.start.0 l.loop.end (omega arith) (omega arith) c.if1.false)
+    let a = c.args in
+    (omega arith, c.loop-end.invariant.1 ∙ zero-last a.region.now a.start.0 c.loop-end.end (omega arith) (omega arith) c.if-region-end-ne0.false)
 
-returns-2 : tie.Need-returns-2 invariant-loop decreases-loop
+returns-2 : tie.Need-returns invariant-loop decreases-loop
 returns-2 c =
-    let l = c.before in
-    let a = l.before.before.before.args in
-    rw (start l.before, l.loop.invariant.1) (none_left a.region.now a.start.0 l.loop.end (omega arith))
+    let a = c.args in
+    rw (start c.before.before, c.loop-end.invariant.1) (none_left a.region.now a.start.0 c.loop-end.end (omega arith))
 
-pub trimmed-spec : {M : Type 1} → statement M
-trimmed-spec =
+pub trimmed_spec : {M : Type 1} → statement M
+trimmed_spec =
     tie.close
     (tie.spec
     invariant-loop

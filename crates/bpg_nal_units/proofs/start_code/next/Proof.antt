@@ -8,33 +8,31 @@ use Rattle.bpg_nal_units.proofs.CodeLaws.{past_end, high-third, zero-third, othe
 use Rattle.bpg_nal_units.proofs.start_code.next.Statement.{statement}
 use Rattle.bpg_nal_units.proofs.start_code.next.Tie as tie
 
-abbrev invariant-loop : tie.invariant-loop
+abbrev invariant-loop : tie.invariant-loop-i
 invariant-loop region end last i₀ i = code_from region i₀ ≡ code_from region i
 
-abbrev decreases-loop : tie.decreases-loop
+abbrev decreases-loop : tie.decreases-loop-i
 decreases-loop region end last i₀ i = length region - i
 
-loop-again : tie.Need-loop-preserved invariant-loop decreases-loop
-loop-again c = c.before.before.before.loop.invariant ∙ high-third _ _ (omega arith) c.if2.true
+loop-again : tie.Need-loop-i-preserved-then-third-gt1 invariant-loop decreases-loop
+loop-again c = c.loop-i.invariant ∙ high-third _ _ (omega arith) c.if-third-gt1.true
 
-loop-again-2 : tie.Need-loop-preserved-2 invariant-loop decreases-loop
-loop-again-2 c = c.before.before.before.before.loop.invariant ∙ zero-third _ _ (omega arith) c.if3.true
+loop-again-2 : tie.Need-loop-i-preserved-then-third-eq0 invariant-loop decreases-loop
+loop-again-2 c = c.loop-i.invariant ∙ zero-third _ _ (omega arith) c.if-third-eq0.true
 
-loop-again-3 : tie.Need-loop-preserved-3 invariant-loop decreases-loop
-loop-again-3 c = let b = c.before.before in b.before.before.before.before.loop.invariant ∙ other-second _ _ (omega arith) b.if3.false c.if4.true
+loop-again-3 : tie.Need-loop-i-preserved-then-region-i-ne0 invariant-loop decreases-loop
+loop-again-3 c = c.loop-i.invariant ∙ other-second _ _ (omega arith) c.if-third-eq0.false c.if-region-i-ne0.true
 
-loop-again-4 : tie.Need-loop-preserved-4 invariant-loop decreases-loop
+loop-again-4 : tie.Need-loop-i-preserved invariant-loop decreases-loop
 loop-again-4 c =
-    let b = c.before.before.before.before in
-    b.before.before.before.before.loop.invariant ∙ other-first _ _ (omega arith) b.if3.false c.if5.true
+    c.loop-i.invariant ∙ other-first _ _ (omega arith) c.if-third-eq0.false c.if-region-i-ne0-2.true
 
-returns-2 : tie.Need-returns-2 invariant-loop decreases-loop
+returns-2 : tie.Need-returns-in-loop-i invariant-loop decreases-loop
 returns-2 c =
-    let b = c.before.before in
-    found_at _ _ (omega arith) (omega arith) b.if4.false c.if5.false ∙ sym b.before.before.before.before.before.before.loop.invariant
+    found_at _ _ (omega arith) (omega arith) c.if-region-i-ne0.false c.if-region-i-ne0-2.false ∙ sym c.loop-i.invariant
 
-pub next-spec : {M : Type 1} → statement M
-next-spec =
+pub next_spec : {M : Type 1} → statement M
+next_spec =
     tie.close
     (tie.spec
     invariant-loop
@@ -60,4 +58,4 @@ next-spec =
     (λ c. omega arith)
     loop-again-4
     returns-2
-    (λ c. past_end _ _ (omega arith) ∙ sym c.before.loop.invariant))
+    (λ c. past_end _ _ (omega arith) ∙ sym c.loop-i.invariant))

@@ -15,78 +15,78 @@ use Rattle.bpg_read_animation.proofs.animation.read.Statement.{statement}
 use Rattle.bpg_read_animation.proofs.animation.read.Tie as tie
 
 -- the loop count was read
-module _ (c : tie.After-known-told2) where
+module _ (c : tie.In-Value) where
   abbrev region : List ℕ
-  region = c.before.before.before.before.before.args.region.now
+  region = c.args.region.now
 
   abbrev at : ℕ
-  at = c.before.before.before.before.before.args.at.0
+  at = c.args.at.0
 
   abbrev count : ℕ
-  count = c.before.count.given.0.0
+  count = c.in-Value.count
 
   abbrev after : ℕ
-  after = c.before.count.given.0.1.0.0
+  after = c.in-Value.after_count.0
 
   count-is : (ue7 16).decode at at (drop at region) ≡ ok (decoded count after (drop after region))
-  count-is = let r = c.before.before.before in value_read (ue7-advances 16) region at r.read.result r.read.ensures _ _ c.before.count.given.1
+  count-is = let r = c.before in value_read (ue7-advances 16) region at r.read.result r.read.ensures _ _ c.in-Value.is
 
 -- and the period's numerator
-module _ (c : tie.After-known-told4) where
-  abbrev first : tie.After-known-told2
-  first = c.before.before.before.before
+module _ (c : tie.In-Value-read_nonzero) where
+  abbrev first : tie.In-Value
+  first = c.before.before
 
   abbrev num : ℕ
-  num = c.before.num.given.0.0
+  num = c.in-Value-read_nonzero.num
 
   abbrev after-num : ℕ
-  after-num = c.before.num.given.0.1.0.0
+  after-num = c.in-Value-read_nonzero.after_num.0
 
   num-is : period.decode (after first) (after first) (drop (after first) (region first)) ≡ ok (decoded num after-num (drop after-num (region first)))
   num-is =
-      let r = c.before.before.before in
-      value_read period-advances (region first) (after first) r.read-nonzero.result (as-period _ _ _ r.read-nonzero.ensures) _ _ c.before.num.given.1
+      let r = c.before in
+      value_read period-advances (region first) (after first) r.read_nonzero.result (as-period _ _ _ r.read_nonzero.ensures) _ _ c.in-Value-read_nonzero.is
 
 -- and its denominator
-module _ (c : tie.After-known-told6) where
-  abbrev second : tie.After-known-told4
-  second = c.before.before.before.before
+module _ (c : tie.In-Value-read_nonzero-2) where
+  abbrev second : tie.In-Value-read_nonzero
+  second = c.before.before
 
   abbrev den : ℕ
-  den = c.before.den.given.0.0
+  den = c.in-Value-read_nonzero-2.den
 
   abbrev after-den : ℕ
-  after-den = c.before.den.given.0.1.0.0
+  after-den = c.in-Value-read_nonzero-2.after_den.0
 
   den-is : period.decode (after-num second) (after-num second) (drop (after-num second) (region (first second)))
       ≡ ok (decoded den after-den (drop after-den (region (first second))))
   den-is =
-      let r = c.before.before.before in
-      value_read period-advances (region (first second)) (after-num second) r.read-nonzero2.result (as-period _ _ _ r.read-nonzero2.ensures) _ _ c.before.den.given.1
+      let r = c.before in
+      value_read period-advances (region (first second)) (after-num second) r.read_nonzero-in-Value-read_nonzero.result (as-period _ _ _ r.read_nonzero-in-Value-read_nonzero.ensures) _ _ c.in-Value-read_nonzero-2.is
 
-returns : tie.Need-returns
+returns : tie.Need-returns-in-Refused
 returns c =
-    let r = c.before.before.before.before in
-    c.refused.ensures ∙ count-refused _ _ _ _ (refusal-read (ue7-advances 16) _ _ r.read.result r.read.ensures _ _ c.before.before.status.given.1)
+    let r = c.before.before in
+    c.refused.ensures ∙ count-refused _ _ _ _ (refusal-read (ue7-advances 16) _ _ r.read.result r.read.ensures _ _ c.in-Refused.is)
 
-returns-2 : tie.Need-returns-2
+returns-2 : tie.Need-returns-in-Refused-read_nonzero
 returns-2 c =
-    let r = c.before.before.before.before in
+    let r = c.before.before in
     let a = r.before in
-    c.refused2.ensures
+    c.refused-in-Refused-read_nonzero.ensures
     ∙ num-refused (region a) (at a) (count a) (after a) (count-is a) _ _
-    (refusal-read period-advances _ _ r.read-nonzero.result (as-period _ _ _ r.read-nonzero.ensures) _ _ c.before.before.status2.given.1)
+    (refusal-read period-advances _ _ r.read_nonzero.result (as-period _ _ _ r.read_nonzero.ensures) _ _ c.in-Refused-read_nonzero.is)
 
-returns-3 : tie.Need-returns-3
+returns-3 : tie.Need-returns-in-Refused-read_nonzero-2
 returns-3 c =
-    let r = c.before.before.before.before in
+    let r = c.before.before in
     let b = r.before in
     let a = first b in
-    c.refused3.ensures
+    c.refused-in-Refused-read_nonzero-2.ensures
     ∙ den-refused (region a) (at a) (count a) (after a) (count-is a) (num b) (after-num b) (num-is b) _ _
-    (refusal-read period-advances _ _ r.read-nonzero2.result (as-period _ _ _ r.read-nonzero2.ensures) _ _ c.before.before.status3.given.1)
+    (refusal-read period-advances _ _ r.read_nonzero-in-Value-read_nonzero.result (as-period _ _ _ r.read_nonzero-in-Value-read_nonzero.ensures) _ _ c.in-Refused-read_nonzero-2.is)
 
-returns-4 : tie.Need-returns-4
+returns-4 : tie.Need-returns-in-Value-read_nonzero-2
 returns-4 c =
     let b = second c in
     let a = first b in

@@ -26,23 +26,23 @@ use Rattle.bpg_read_entries.proofs.block.read.Tie as tie
 abbrev made : ℕ → Bool → Animation → Block
 made n animated animation = record { status = 0; offset = byte_pos 0; entry_count = n; animated = animated; animation = animation }
 
-abbrev invariant-loop : tie.invariant-loop
+abbrev invariant-loop : tie.invariant-loop-next
 invariant-loop region entry-count₀ animated₀ animation₀ next₀ entry-count animated animation next =
     ReadSoFar region next₀ (made entry-count animated animation) next
 
-abbrev decreases-loop : tie.decreases-loop
+abbrev decreases-loop : tie.decreases-loop-next
 decreases-loop region entry-count₀ animated₀ animation₀ next₀ entry-count animated animation next = max_entries - entry-count
 
-returns : tie.Need-returns invariant-loop decreases-loop
-returns c = c.refused.ensures ∙ too_long _ _ c.before.if1.true
+returns : tie.Need-returns-then-region-gt-MAX_FILE invariant-loop decreases-loop
+returns c = c.refused.ensures ∙ too_long _ _ c.if-region-gt-MAX_FILE.true
 
-loop-holds : tie.Need-loop-init invariant-loop decreases-loop
+loop-holds : tie.Need-loop-next-init invariant-loop decreases-loop
 loop-holds c =
-    let a = c.before.before.before.args in
-    subst (λ (y : Animation). ReadSoFar a.region.now a.at.0 (made 0 false y) a.at.0) (sym c.none.ensures) (begins a.region.now a.at.0)
+    let a = c.args in
+    subst (λ (y : Animation). ReadSoFar a.region.now a.at.0 (made 0 false y) a.at.0) (sym c.none-animation.ensures) (begins a.region.now a.at.0)
 
 -- a turn of the loop
-module _ (c : tie.At-loop invariant-loop decreases-loop) where
+module _ (c : tie.At-loop-next invariant-loop decreases-loop) where
   abbrev start : tie.Start invariant-loop decreases-loop
   start = c.before.before.before.before
 
@@ -53,89 +53,84 @@ module _ (c : tie.At-loop invariant-loop decreases-loop) where
   at = start.args.at.0
 
   abbrev block : Block
-  block = made c.loop.entry-count c.loop.animated c.loop.animation
+  block = made c.loop-next.entry-count c.loop-next.animated c.loop-next.animation
 
   short : read_entries max_entries false at (drop at region) ≡ entries_in region at
-  short = in-region region at c.before.before.if1.false
+  short = in-region region at c.if-region-gt-MAX_FILE.false
 
   bytes : All Byte region
-  bytes = all-bytes region (λ i. omega (arith, c.before.before.before.shared-slice-known.given i))
+  bytes = all-bytes region (λ i. omega (arith, c.shared_slice_known-1.given i))
 
-cast-if2 : tie.Need-overflow-cast-if2 invariant-loop decreases-loop
-cast-if2 c = let l = c.before in omega (arith, count_most _ _ (block l) _ l.loop.invariant)
+cast-if2 : tie.Need-overflow_cast-entry_count invariant-loop decreases-loop
+cast-if2 c = omega (arith, count_most _ _ (block c.before) _ c.loop-next.invariant)
 
-returns-2 : tie.Need-returns-2 invariant-loop decreases-loop
+returns-2 : tie.Need-returns-then-entry_count-ge-MAX_ENTRIES invariant-loop decreases-loop
 returns-2 c =
     let l = c.before.before.before in
-    c.refused2.ensures ∙ full _ _ (block l) _ l.loop.invariant c.before.before.loop-test.true c.before.if2.true ∙ ap block_answer (short l)
+    c.refused-then-entry_count-ge-MAX_ENTRIES.ensures ∙ full _ _ (block l) _ c.loop-next.invariant c.loop-next-test.true c.if-entry_count-ge-MAX_ENTRIES.true ∙ ap block_answer (short l)
 
 -- the step
-module _ (c : tie.After-read invariant-loop decreases-loop) where
-  abbrev turn : tie.At-loop invariant-loop decreases-loop
+module _ (c : tie.After-read-step invariant-loop decreases-loop) where
+  abbrev turn : tie.At-loop-next invariant-loop decreases-loop
   turn = c.before.before.before
 
   abbrev step : EntryReading
-  step = c.read.result
+  step = c.read-step.result
 
   abbrev entry : Outcome (Decoded ℕ Extension)
-  entry = read_entry turn.loop.animated turn.loop.next (drop turn.loop.next (region turn))
+  entry = read_entry turn.loop-next.animated turn.loop-next.next (drop turn.loop-next.next (region turn))
 
   ends_with : (s o : ℕ) → entry ≡ error s o → refused_block s o ≡ block_answer (entries_in (region turn) (at turn))
-  ends_with s o e = stops _ _ (block turn) _ turn.loop.inv c.before.before.loop-test.true c.before.if2.false s o e ∙ ap block_answer (short turn)
+  ends_with s o e = stops _ _ (block turn) _ turn.loop-next.invariant c.loop-next-test.true c.if-entry_count-ge-MAX_ENTRIES.false s o e ∙ ap block_answer (short turn)
 
-returns-3 : tie.Need-returns-3 invariant-loop decreases-loop
+returns-3 : tie.Need-returns-then-step-ne0 invariant-loop decreases-loop
 returns-3 c =
-    let r = c.before.before.before in
-    c.refused3.ensures ∙ ends_with r _ _ (step-refused _ _ _ (step r) r.read.ensures c.before.if3.true)
+    let r = c.before.before.before.before in
+    c.refused-then-step-ne0.ensures ∙ ends_with r _ _ (step-refused _ _ _ (step r) c.read-step.ensures c.if-step-ne0.true)
 
 -- the entry was found
-module _ (c : tie.After-struct-known2 invariant-loop decreases-loop) where
-  abbrev read : tie.After-read invariant-loop decreases-loop
+module _ (c : tie.After-struct_known-in-loop-next-1 invariant-loop decreases-loop) where
+  abbrev read : tie.After-read-step invariant-loop decreases-loop
   read = c.before.before.before
 
-  here : Started (region (turn read)) (turn read).loop.next (step read)
-  here = step-started _ false _ (step read) read.read.ensures (omega (arith, read.before.before.loop-test.taken)) c.before.if3.false
+  here : Started (region (turn read)) (turn read).loop-next.next (step read)
+  here = step-started _ false _ (step read) read.read-step.ensures (omega (arith, read.loop-next-test.taken)) c.if-step-ne0.false
 
-  less : max_entries - ((turn read).loop.entry-count + 1) < max_entries - (turn read).loop.entry-count
-  less = omega (arith, read.before.if2.left)
+  less : max_entries - ((turn read).loop-next.entry-count + 1) < max_entries - (turn read).loop-next.entry-count
+  less = omega (arith, read.if-entry_count-ge-MAX_ENTRIES.left)
 
-control-requires : tie.Need-control-requires invariant-loop decreases-loop
+control-requires : tie.Need-control-found-requires invariant-loop decreases-loop
 control-requires c κs = (here c.before).inside
 
-returns-4 : tie.Need-returns-4 invariant-loop decreases-loop
+returns-4 : tie.Need-returns-then-found-ne0 invariant-loop decreases-loop
 returns-4 c =
-    let f = c.before.before.before in
-    let t = f.before in
-    let d = t.before in
-    c.refused4.ensures
-    ∙ ends_with (read d) _ _ (numbers-refused _ _ _ (step (read d)) (here d) t.if4.true f.control.result f.control.ensures c.before.if5.true)
+    let d = c.before.before.before.before.before.before in
+    c.refused-then-found-ne0.ensures
+    ∙ ends_with (read d) _ _ (numbers-refused _ _ _ (step (read d)) (here d) c.if-step-eq5.true c.control-found.result c.control-found.ensures c.if-found-ne0.true)
 
-loop-less : tie.Need-loop-smaller invariant-loop decreases-loop
+loop-less : tie.Need-loop-next-smaller-else-found-ne0 invariant-loop decreases-loop
 loop-less c = less c.before.before.before.before
 
-loop-again : tie.Need-loop-preserved invariant-loop decreases-loop
+loop-again : tie.Need-loop-next-preserved-else-found-ne0 invariant-loop decreases-loop
 loop-again c =
-    let f = c.before.before in
-    let t = f.before in
-    let d = t.before in
+    let d = c.before.before.before.before in
     let r = read d in
     let l = turn r in
-    let n = numbers-read _ _ _ (step r) (here d) t.if4.true f.control.result f.control.ensures (bytes l) c.if5.false in
-    animates _ _ (block l) _ l.loop.inv r.before.before.loop-test.taken r.before.if2.left (bytes l) (step r) (here d) n.0 t.if4.true n.1 f.control.result n.2
+    let n = numbers-read _ _ _ (step r) (here d) c.if-step-eq5.true c.control-found.result c.control-found.ensures (bytes l) c.if-found-ne0.false in
+    animates _ _ (block l) _ l.loop-next.invariant r.loop-next-test.taken r.if-entry_count-ge-MAX_ENTRIES.left (bytes l) (step r) (here d) n.0 c.if-step-eq5.true n.1 c.control-found.result n.2
 
-loop-less-2 : tie.Need-loop-smaller-2 invariant-loop decreases-loop
+loop-less-2 : tie.Need-loop-next-smaller invariant-loop decreases-loop
 loop-less-2 c = less c.before
 
-loop-again-2 : tie.Need-loop-preserved-2 invariant-loop decreases-loop
+loop-again-2 : tie.Need-loop-next-preserved invariant-loop decreases-loop
 loop-again-2 c =
-    let d = c.before in
-    let r = read d in
+    let r = read c.before in
     let l = turn r in
-    let plain = plain-read _ _ _ (step r) (here d) c.if4.false in
-    goes_on _ _ (block l) _ l.loop.inv r.before.before.loop-test.taken r.before.if2.left (bytes l) (step r) (here d) plain c.if4.false
+    let plain = plain-read _ _ _ (step r) (here c.before) c.if-step-eq5.false in
+    goes_on _ _ (block l) _ l.loop-next.invariant r.loop-next-test.taken r.if-entry_count-ge-MAX_ENTRIES.left (bytes l) (step r) (here c.before) plain c.if-step-eq5.false
 
-returns-5 : tie.Need-returns-5 invariant-loop decreases-loop
-returns-5 c = let l = c.before in ends _ _ (block l) _ l.loop.invariant c.loop-test.false ∙ ap block_answer (short l)
+returns-5 : tie.Need-returns invariant-loop decreases-loop
+returns-5 c = ends _ _ (block c.before) _ c.loop-next.invariant c.loop-next-test.false ∙ ap block_answer (short c.before)
 
 pub read_spec : {M : Type 1} → statement M
 read_spec =

@@ -5,14 +5,14 @@ use borrow.Author.Rules.{rules}
 use Rattle.bpg_read_entries.proofs.entry.control.Statement.{statement}
 use Rattle.bpg_read_entries.proofs.entry.control.Tie as tie
 
-returns : tie.Need-returns
-returns c = c.refused.ensures ∙ rw c.before.if1.true
+returns : tie.Need-returns-then-seen
+returns c = c.refused.ensures ∙ rw c.if-seen.true
 
-returns-2 : tie.Need-returns-2
-returns-2 c = c.read.ensures ∙ rw (sub-zero, c.before.before.before.if1.false)
+returns-2 : tie.Need-returns
+returns-2 c = c.read.ensures ∙ rw (sub-zero, c.if-seen.false)
 
-pub control-spec : {M : Type 1} → statement M
-control-spec =
+pub control_spec : {M : Type 1} → statement M
+control_spec =
     tie.close
     (tie.spec
     (λ c κs. search rules)

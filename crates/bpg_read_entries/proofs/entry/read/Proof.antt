@@ -15,9 +15,9 @@ use Rattle.bpg_read_entries.proofs.entry.read.Statement.{statement}
 use Rattle.bpg_read_entries.proofs.entry.read.Tie as tie
 
 -- the tag was read
-module _ (c : tie.After-known-told2) where
+module _ (c : tie.In-Value) where
   abbrev start : tie.Start
-  start = c.before.before.before.before.before
+  start = c.before.before.before
 
   abbrev region : List ℕ
   region = start.args.region.now
@@ -26,69 +26,66 @@ module _ (c : tie.After-known-told2) where
   at = start.args.at.0
 
   abbrev tag : ℕ
-  tag = c.before.tag.given.0.0
+  tag = c.in-Value.tag
 
   abbrev after : ℕ
-  after = c.before.tag.given.0.1.0.0
+  after = c.in-Value.length_at.0
 
   tag_is : (ue7 32).decode at at (drop at region) ≡ ok (decoded tag after (drop after region))
-  tag_is = let r = c.before.before.before in value_read (ue7-advances 32) region at r.read.result r.read.ensures _ _ c.before.tag.given.1
+  tag_is = value_read (ue7-advances 32) region at c.read.result c.read.ensures _ _ c.in-Value.is
 
 -- and the length
-module _ (c : tie.After-known-told4) where
-  abbrev first : tie.After-known-told2
-  first = c.before.before.before.before
+module _ (c : tie.In-Value-read) where
+  abbrev first : tie.In-Value
+  first = c.before.before
 
   abbrev size : ℕ
-  size = c.before.size.given.0.0
+  size = c.in-Value-read.size
 
   abbrev payload : ℕ
-  payload = c.before.size.given.0.1.0.0
+  payload = c.in-Value-read.start.0
 
   size_is : (ue7 32).decode (after first) (after first) (drop (after first) (region first)) ≡ ok (decoded size payload (drop payload (region first)))
   size_is =
-      let r = c.before.before.before in
-      value_read (ue7-advances 32) (region first) (after first) r.read2.result r.read2.ensures _ _ c.before.size.given.1
+      value_read (ue7-advances 32) (region first) (after first) c.read-in-Value.result c.read-in-Value.ensures _ _ c.in-Value-read.is
 
   inside : payload ≤ length (region first)
   inside =
       within (ue7-advances 32) (region first) (after first) (after first)
-      (within (ue7-advances 32) (region first) (at first) (at first) (start first).pre.1 _ (tag_is first)) _ size_is
+      (within (ue7-advances 32) (region first) (at first) (at first) (start first).requires.1 _ (tag_is first)) _ size_is
 
-sub-if1 : tie.Need-overflow-sub-if1
+sub-if1 : tie.Need-overflow_sub-region
 sub-if1 c = inside c.before
 
-returns : tie.Need-returns
+returns : tie.Need-returns-then-region-start
 returns c =
     let d = c.before.before.before in
     let f = first d in
-    c.refused3.ensures ∙ too_long (region f) (at f) (tag f) (after f) (tag_is f) (size d) (payload d) (size_is d) c.before.if1.true
+    c.refused-then-region-start.ensures ∙ too_long (region f) (at f) (tag f) (after f) (tag_is f) (size d) (payload d) (size_is d) c.if-region-start.true
 
 found-requires : tie.Need-found-requires
 found-requires c κs =
     let d = c.before.before in
     let s = start (first d) in
-    (omega (arith, s.pre), omega (arith, inside d, c.if1.false, s.pre.0))
+    (omega (arith, s.requires), omega (arith, inside d, c.if-region-start.false, s.requires.0))
 
-returns-2 : tie.Need-returns-2
+returns-2 : tie.Need-returns-in-Refused
 returns-2 c =
-    let r = c.before.before.before.before in
     c.refused.ensures
-    ∙ tag-refused _ _ _ _ (refusal-read (ue7-advances 32) _ _ r.read.result r.read.ensures _ _ c.before.before.status.given.1)
+    ∙ tag-refused _ _ _ _ (refusal-read (ue7-advances 32) _ _ c.read.result c.read.ensures _ _ c.in-Refused.is)
 
-returns-3 : tie.Need-returns-3
+returns-3 : tie.Need-returns-in-Refused-read
 returns-3 c =
-    let r = c.before.before.before.before in
-    let f = r.before in
-    c.refused2.ensures
+    let f = c.before.before.before in
+    c.refused-in-Refused-read.ensures
     ∙ size-refused (region f) (at f) (tag f) (after f) (tag_is f) _ _
-    (refusal-read (ue7-advances 32) _ _ r.read2.result r.read2.ensures _ _ c.before.before.status2.given.1)
+    (refusal-read (ue7-advances 32) _ _ c.read-in-Value.result c.read-in-Value.ensures _ _ c.in-Refused-read.is)
 
-returns-4 : tie.Need-returns-4
+returns-4 : tie.Need-returns-else-region-start
 returns-4 c =
     let d = c.before.before.before in
     let f = first d in
-    c.found.ensures ∙ started (region f) (at f) (tag f) (after f) (tag_is f) (size d) (payload d) (size_is d) c.before.if1.false
+    c.found.ensures ∙ started (region f) (at f) (tag f) (after f) (tag_is f) (size d) (payload d) (size_is d) c.if-region-start.false
 
 pub read_spec : {M : Type 1} → statement M
 read_spec =

@@ -8,7 +8,7 @@ use Rattle.bpg_read_fields.proofs.all_fields.missing.Statement.{statement}
 use Rattle.bpg_read_fields.proofs.all_fields.missing.Tie as tie
 
 returns : tie.Need-returns
-returns c = ap (λ (h : Header). record { found = false; header = h; next = bit_pos 0 }) c.zero-header.ensures
+returns c = ap (λ (h : Header). record { found = false; header = h; next = bit_pos 0 }) c.zero_header-header.ensures
 
-pub missing-spec : {M : Type 1} → statement M
-missing-spec = tie.close (tie.spec (λ c κs. search rules) returns)
+pub missing_spec : {M : Type 1} → statement M
+missing_spec = tie.close (tie.spec (λ c κs. search rules) returns)

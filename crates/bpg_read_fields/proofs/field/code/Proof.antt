@@ -19,7 +19,7 @@ module _ (st : tie.Start) where
   zeros = omega (arith, (leading_length 64 word small).1)
 
 -- the next bits hold the code
-module _ (c : tie.Else1) where
+module _ (c : tie.Else-left-size) where
   abbrev start : tie.Start
   start = c.before.before
 
@@ -30,38 +30,38 @@ module _ (c : tie.Else1) where
   held = omega arith
 
   few : count_leading_zeros 64 w ≤ 31
-  few = omega (arith, start.pre.few)
+  few = omega (arith, start.requires.few)
 
   some : 1 ≤ plus_one w (small start) few
   some = plus_one-some w (small start) few
 
-cast-size : tie.Need-overflow-cast-size
+cast-size : tie.Need-overflow_cast-size
 cast-size c = record { fits = omega (arith, zeros c.before) }
 
-mul-size : tie.Need-overflow-mul-size
+mul-size : tie.Need-overflow_mul-size
 mul-size c = record { fits = omega (arith, zeros c.before) }
 
-add-size : tie.Need-overflow-add-size
+add-size : tie.Need-overflow_add-size
 add-size c = record { fits = omega (arith, zeros c.before) }
 
-sub-t12 : tie.Need-overflow-sub-t12
+sub-t12 : tie.Need-overflow_sub-result-2
 sub-t12 c = some c
 
-cast-t6 : tie.Need-overflow-cast-t6
+cast-t6 : tie.Need-overflow_cast-result
 cast-t6 c = record { fits = omega (arith, plus_one-small (w c) (small (start c)) (few c)) }
 
-add-t8 : tie.Need-overflow-add-t8
+add-t8 : tie.Need-overflow_add-result
 add-t8 c =
     let st = start c.before in
-    record { fits = omega (arith, in-word-end st.args.region.now st.args.at.0 _ _ _ st.pre (omega arith) (held c.before)) }
+    record { fits = omega (arith, in-word-end st.args.region.now st.args.at.0 _ _ _ st.requires (omega arith) (held c.before)) }
 
-returns-2 : tie.Need-returns-2
+returns-2 : tie.Need-returns
 returns-2 c =
     let st = start c.before in
-    code-found st.args.region.now st.args.at.0 (word st) _ (small st) st.pre (held c.before) (few c.before) _ (omega (arith, some c.before))
+    code-found st.args.region.now st.args.at.0 (word st) _ (small st) st.requires (held c.before) (few c.before) _ (omega (arith, some c.before))
 
-pub code-spec : {M : Type 1} → statement M
-code-spec =
+pub code_spec : {M : Type 1} → statement M
+code_spec =
     tie.close
     (tie.spec
     cast-size

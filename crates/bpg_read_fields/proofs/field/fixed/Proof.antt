@@ -13,7 +13,7 @@ use Rattle.bpg_read_fields.proofs.field.fixed.Statement.{statement}
 use Rattle.bpg_read_fields.proofs.field.fixed.Tie as tie
 
 -- the next bits hold the field
-module _ (c : tie.Else1) where
+module _ (c : tie.Else-left-size) where
   abbrev start : tie.Start
   start = c.before.before
 
@@ -25,25 +25,25 @@ module _ (c : tie.Else1) where
 
   value-small : start.args.word / 2 ^ (64 - n) < 2 ^ 8
   value-small =
-      let e : n + (64 - n) ≡ 64 = omega (arith, start.pre.1.1) in
+      let e : n + (64 - n) ≡ 64 = omega (arith, start.requires.1.1) in
       let h : start.args.word < 2 ^ 64 = omega arith in
-      omega (arith, shr_lt {n = start.args.word} n (64 - n) (rw e h), pow_mono {i = n} {j = 8} (omega (arith, start.pre.1.1)))
+      omega (arith, shr_lt {n = start.args.word} n (64 - n) (rw e h), pow_mono {i = n} {j = 8} (omega (arith, start.requires.1.1)))
 
-cast-t12 : tie.Need-overflow-cast-t12
+cast-t12 : tie.Need-overflow_cast-result
 cast-t12 c = record { fits = omega (arith, value-small c) }
 
-add-t13 : tie.Need-overflow-add-t13
+add-t13 : tie.Need-overflow_add-result
 add-t13 c =
     let st = start c.before in
-    record { fits = omega (arith, in-word-end st.args.region.now st.args.at.0 _ _ _ st.pre.0 st.pre.1.0 (held c.before)) }
+    record { fits = omega (arith, in-word-end st.args.region.now st.args.at.0 _ _ _ st.requires.0 st.requires.1.0 (held c.before)) }
 
-returns-2 : tie.Need-returns-2
+returns-2 : tie.Need-returns
 returns-2 c =
     let st = start c.before in
     let l = region_bits st.args.region.now in
     let p = st.args.at.0 in
-    let e : st.args.n ≡ min st.args.n 8 = omega (arith, st.pre.1.1) in
-    bits-found st.args.region.now p st.args.word _ (omega arith) st.pre.0 st.args.n (held c.before) ∙ ap (λ (k : ℕ). bit_answer (decode_at l (unsigned k) 0 p)) e
+    let e : st.args.n ≡ min st.args.n 8 = omega (arith, st.requires.1.1) in
+    bits-found st.args.region.now p st.args.word _ (omega arith) st.requires.0 st.args.n (held c.before) ∙ ap (λ (k : ℕ). bit_answer (decode_at l (unsigned k) 0 p)) e
 
-pub fixed-spec : {M : Type 1} → statement M
-fixed-spec = tie.close (tie.spec (λ c κs. search rules) (λ c. search rules) (λ c. search rules) (λ c. search rules) cast-t12 add-t13 returns-2)
+pub fixed_spec : {M : Type 1} → statement M
+fixed_spec = tie.close (tie.spec (λ c κs. search rules) (λ c. search rules) (λ c. search rules) (λ c. search rules) cast-t12 add-t13 returns-2)

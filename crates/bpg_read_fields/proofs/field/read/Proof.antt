@@ -18,15 +18,15 @@ module _ (st : tie.Start) where
   abbrev at : ℕ
   at = st.args.at.0
 
-returns : tie.Need-returns
+returns : tie.Need-returns-then-width-eq0
 returns c =
     let st = c.before.before.before in
-    c.code.ensures ∙ ap bit_answer (sym (field-code (bits st) (at st) st.args.width refl (eq-eqb _ _ c.before.if1.true)))
+    c.code.ensures ∙ ap bit_answer (sym (field-code (bits st) (at st) c.args.width refl (eq-eqb _ _ c.if-width-eq0.true)))
 
-returns-2 : tie.Need-returns-2
+returns-2 : tie.Need-returns
 returns-2 c =
     let st = c.before.before.before in
-    c.fixed.ensures ∙ ap bit_answer (sym (field-bits (bits st) (at st) st.args.width refl (ne_eqb _ _ c.before.if1.false)))
+    c.fixed.ensures ∙ ap bit_answer (sym (field-bits (bits st) (at st) c.args.width refl (ne_eqb _ _ c.if-width-eq0.false)))
 
 pub read_spec : {M : Type 1} → statement M
 read_spec = tie.close (tie.spec (λ c κs. search rules) returns (λ c κs. search rules) returns-2)

@@ -5,11 +5,11 @@ use borrow.Author.Tests.{eq-eqb, ne_eqb}
 use Rattle.bpg_read_fields.proofs.values.after_group.Statement.{statement}
 use Rattle.bpg_read_fields.proofs.values.after_group.Tie as tie
 
-returns : tie.Need-returns
-returns c = sym (select-true _ _ (eq-eqb _ _ c.if1.true))
+returns : tie.Need-returns-then-gate-eq6
+returns c = sym (select-true _ _ (eq-eqb _ _ c.if-gate-eq6.true))
 
-returns-2 : tie.Need-returns-2
-returns-2 c = sym (select-false _ _ (ne_eqb _ _ c.if1.false))
+returns-2 : tie.Need-returns
+returns-2 c = sym (select-false _ _ (ne_eqb _ _ c.if-gate-eq6.false))
 
-pub after-group-spec : {M : Type 1} → statement M
-after-group-spec = tie.close (tie.spec returns returns-2)
+pub after_group_spec : {M : Type 1} → statement M
+after_group_spec = tie.close (tie.spec returns returns-2)

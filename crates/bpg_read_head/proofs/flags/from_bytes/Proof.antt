@@ -8,5 +8,5 @@ use Rattle.bpg_read_head.proofs.flags.from_bytes.Tie as tie
 returns : tie.Need-returns
 returns c = let e : c.args.byte5 / 1 % 2 ≡ c.args.byte5 % 2 = omega arith in rw e
 
-pub from-bytes-spec : {M : Type 1} → statement M
-from-bytes-spec = tie.close (tie.spec returns)
+pub from_bytes_spec : {M : Type 1} → statement M
+from_bytes_spec = tie.close (tie.spec returns)

@@ -12,52 +12,44 @@ use Rattle.bpg_read_head.proofs.FlagLaws.{too_short, no-magic, no-format, no-dep
 use Rattle.bpg_read_head.proofs.flags.read.Statement.{statement}
 use Rattle.bpg_read_head.proofs.flags.read.Tie as tie
 
-returns : tie.Need-returns
-returns c = c.refused.ensures ∙ too_short _ c.before.if1.true
+returns : tie.Need-returns-then-file-lt6
+returns c = c.refused.ensures ∙ too_short _ c.if-file-lt6.true
 
-returns-2 : tie.Need-returns-2
+returns-2 : tie.Need-returns-then-not-has_magic
 returns-2 c =
-    let m = c.before.before in
-    c.refused2.ensures ∙ no-magic _ m.before.if1.false (sym m.has-magic.ensures ∙ not-true _ c.before.if2.true)
+    c.refused-then-not-has_magic.ensures ∙ no-magic _ c.if-file-lt6.false (sym c.has_magic.ensures ∙ c.if-not-has_magic.true)
 
 -- the magic is there
-module _ (c : tie.Else2) where
+module _ (c : tie.Else-not-has_magic) where
   abbrev file : List ℕ
-  file = c.before.before.before.before.args.file.now
+  file = c.args.file.now
 
   has-magic : same magic (take 4 file) ≡ true
-  has-magic = sym c.before.has-magic.ensures ∙ not-false _ c.if2.false
+  has-magic = sym c.has_magic.ensures ∙ c.if-not-has_magic.false
 
-returns-3 : tie.Need-returns-3
+returns-3 : tie.Need-returns-then-byte4-gt5
 returns-3 c =
     let m = c.before.before.before.before in
-    c.refused3.ensures ∙ no-format (file m) m.before.before.if1.false (has-magic m) c.before.if3.true
+    c.refused-then-byte4-gt5.ensures ∙ no-format (file m) c.if-file-lt6.false (has-magic m) c.if-byte4-gt5.true
 
-returns-4 : tie.Need-returns-4
+returns-4 : tie.Need-returns-then-byte4-gt6
 returns-4 c =
-    let f = c.before.before in
-    let m = f.before.before.before in
-    c.refused4.ensures ∙ no-depth (file m) m.before.before.if1.false (has-magic m) f.if3.false c.before.if4.true
+    let m = c.before.before.before.before.before in
+    c.refused-then-byte4-gt6.ensures ∙ no-depth (file m) c.if-file-lt6.false (has-magic m) c.if-byte4-gt5.false c.if-byte4-gt6.true
 
-returns-5 : tie.Need-returns-5
+returns-5 : tie.Need-returns-then-not-color_space_allowed
 returns-5 c =
-    let s = c.before.before in
-    let d = s.before in
-    let f = d.before in
-    let m = f.before.before.before in
-    c.refused5.ensures
-    ∙ no-space (file m) m.before.before.if1.false (has-magic m) f.if3.false d.if4.false
-    (sym s.color-space-allowed.ensures ∙ not-true _ c.before.if5.true)
+    let m = c.before.before.before.before.before.before.before in
+    c.refused-then-not-color_space_allowed.ensures
+    ∙ no-space (file m) c.if-file-lt6.false (has-magic m) c.if-byte4-gt5.false c.if-byte4-gt6.false
+    (sym c.color_space_allowed.ensures ∙ c.if-not-color_space_allowed.true)
 
-returns-6 : tie.Need-returns-6
+returns-6 : tie.Need-returns
 returns-6 c =
-    let s = c.before.before in
-    let d = s.before in
-    let f = d.before in
-    let m = f.before.before.before in
-    rw c.from_bytes.ensures
-    (all-kept (file m) m.before.before.if1.false (has-magic m) f.if3.false d.if4.false
-    (sym s.color-space-allowed.ensures ∙ not-false _ c.before.if5.false))
+    let m = c.before.before.before.before.before.before.before in
+    rw c.from_bytes-flags.ensures
+    (all-kept (file m) c.if-file-lt6.false (has-magic m) c.if-byte4-gt5.false c.if-byte4-gt6.false
+    (sym c.color_space_allowed.ensures ∙ c.if-not-color_space_allowed.false))
 
 pub read_spec : {M : Type 1} → statement M
 read_spec =

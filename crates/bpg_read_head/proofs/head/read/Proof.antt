@@ -12,31 +12,28 @@ use Rattle.bpg_read_head.proofs.HeadSteps.{no-flags, no_size, rest_read}
 use Rattle.bpg_read_head.proofs.head.read.Statement.{statement}
 use Rattle.bpg_read_head.proofs.head.read.Tie as tie
 
-returns : tie.Need-returns
+returns : tie.Need-returns-then-reading-ne0
 returns c =
-    let f = c.before.before.before in
-    c.refused.ensures ∙ no-flags _ _ _ (flags-refused _ f.read.result f.read.ensures c.before.if1.true)
+    c.refused.ensures ∙ no-flags _ _ _ (flags-refused _ c.read-reading.result c.read-reading.ensures c.if-reading-ne0.true)
 
 -- the flags were read
-module _ (c : tie.Else1) where
+module _ (c : tie.Else-reading-ne0) where
   abbrev file : List ℕ
-  file = c.before.before.before.before.args.file.now
+  file = c.args.file.now
 
-  flags-are : read_flags file ≡ ok (flag_fields c.before.before.read.result.flags)
-  flags-are = flags-read file c.before.before.read.result c.before.before.read.ensures c.if1.false
+  flags-are : read_flags file ≡ ok (flag_fields c.read-reading.result.flags)
+  flags-are = flags-read file c.read-reading.result c.read-reading.ensures c.if-reading-ne0.false
 
-returns-2 : tie.Need-returns-2
+returns-2 : tie.Need-returns-then-size-ne0
 returns-2 c =
-    let s = c.before.before.before in
-    let f = s.before in
-    c.refused2.ensures ∙ no_size (file f) _ (flags-are f) _ _ (size-refused (file f) 6 s.read2.result s.read2.ensures c.before.if2.true)
+    let f = c.before.before.before.before.before in
+    c.refused-then-size-ne0.ensures ∙ no_size (file f) _ (flags-are f) _ _ (size-refused (file f) 6 c.read-size.result c.read-size.ensures c.if-size-ne0.true)
 
-returns-3 : tie.Need-returns-3
+returns-3 : tie.Need-returns
 returns-3 c =
-    let s = c.before.before.before.before in
-    let f = s.before in
+    let f = c.before.before.before.before.before in
     c.with_size.ensures
-    ∙ rest_read (file f) _ (flags-are f) _ _ _ (size-read (file f) 6 s.read2.result s.read2.ensures c.before.before.if2.false)
+    ∙ rest_read (file f) _ (flags-are f) _ _ _ (size-read (file f) 6 c.read-size.result c.read-size.ensures c.if-size-ne0.false)
 
 pub read_spec : {M : Type 1} → statement M
 read_spec =

@@ -12,11 +12,11 @@ use Rattle.bpg_read_head.proofs.head.read_extension_length.Tie as tie
 abbrev answer : Outcome (Decoded ℕ ℕ) → Number
 answer m = number_answer (located m)
 
-returns : tie.Need-returns
-returns c = c.read.ensures ∙ ap answer (sym (select-true _ _ c.before.if1.true))
+returns : tie.Need-returns-then-present
+returns c = c.read.ensures ∙ ap answer (sym (select-true _ _ c.if-present.true))
 
-returns-2 : tie.Need-returns-2
-returns-2 c = ap answer (sym (select-false _ _ c.if1.false))
+returns-2 : tie.Need-returns
+returns-2 c = ap answer (sym (select-false _ _ c.if-present.false))
 
-pub read-extension-length-spec : {M : Type 1} → statement M
-read-extension-length-spec = tie.close (tie.spec (λ c κs. search rules) returns returns-2)
+pub read_extension_length_spec : {M : Type 1} → statement M
+read_extension_length_spec = tie.close (tie.spec (λ c κs. search rules) returns returns-2)

@@ -15,9 +15,9 @@ use Rattle.bpg_read_head.proofs.head.with_size.Statement.{statement}
 use Rattle.bpg_read_head.proofs.head.with_size.Tie as tie
 
 -- the data length was read
-module _ (c : tie.After-known-told2) where
+module _ (c : tie.In-Value) where
   abbrev start : tie.Start
-  start = c.before.before.before.before.before.before
+  start = c.before.before.before.before
 
   abbrev file : List ℕ
   file = start.args.file.now
@@ -26,34 +26,31 @@ module _ (c : tie.After-known-told2) where
   size = start.args.size
 
   abbrev after : ℕ
-  after = c.before.length.given.0.1.0.0
+  after = c.in-Value.after.0
 
-  length-is : (ue7 32).decode size.next.0 size.next.0 (drop size.next.0 file) ≡ ok (decoded c.before.length.given.0.0 after (drop after file))
-  length-is = let r = c.before.before.before in value_read (ue7-advances 32) file size.next.0 r.read.result r.read.ensures _ _ c.before.length.given.1
+  length-is : (ue7 32).decode size.next.0 size.next.0 (drop size.next.0 file) ≡ ok (decoded c.in-Value.length after (drop after file))
+  length-is = value_read (ue7-advances 32) file size.next.0 c.read.result c.read.ensures _ _ c.in-Value.is
 
-returns : tie.Need-returns
+returns : tie.Need-returns-in-Refused
 returns c =
-    let r = c.before.before.before.before in
     c.refused.ensures
-    ∙ length-refused _ _ _ _ _ _ _ (refusal-read (ue7-advances 32) _ _ r.read.result r.read.ensures _ _ c.before.before.status.given.1)
+    ∙ length-refused _ _ _ _ _ _ _ (refusal-read (ue7-advances 32) _ _ c.read.result c.read.ensures _ _ c.in-Refused.is)
 
-returns-2 : tie.Need-returns-2
+returns-2 : tie.Need-returns-in-Refused-read_extension_length
 returns-2 c =
-    let r = c.before.before.before.before in
-    let n = r.before in
-    c.refused2.ensures
+    let n = c.before.before.before in
+    c.refused-in-Refused-read_extension_length.ensures
     ∙ length-read (file n) (flag_fields (start n).args.flags) (size n).width (size n).height (size n).next.0 _ (after n) (length-is n) (error _ _)
-    (refusal-outcome r.read-extension-length.result r.read-extension-length.ensures _ _ c.before.before.status2.given.1)
+    (refusal-outcome c.read_extension_length.result c.read_extension_length.ensures _ _ c.in-Refused-read_extension_length.is)
 
-returns-3 : tie.Need-returns-3
+returns-3 : tie.Need-returns-in-Value-read_extension_length
 returns-3 c =
-    let r = c.before.before.before in
-    let n = r.before in
+    let n = c.before.before in
     length-read (file n) (flag_fields (start n).args.flags) (size n).width (size n).height (size n).next.0 _ (after n) (length-is n) (ok (_, _))
-    (value-outcome r.read-extension-length.result r.read-extension-length.ensures _ _ c.before.extension.given.1)
+    (value-outcome c.read_extension_length.result c.read_extension_length.ensures _ _ c.in-Value-read_extension_length.is)
 
-pub with-size-spec : {M : Type 1} → statement M
-with-size-spec =
+pub with_size_spec : {M : Type 1} → statement M
+with_size_spec =
     tie.close
     (tie.spec
     (λ c κs. search rules)

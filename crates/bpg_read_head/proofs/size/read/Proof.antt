@@ -12,45 +12,41 @@ use Rattle.bpg_read_head.proofs.size.read.Statement.{statement}
 use Rattle.bpg_read_head.proofs.size.read.Tie as tie
 
 -- the width was read
-module _ (c : tie.After-known-told2) where
+module _ (c : tie.In-Value) where
   abbrev file : List ℕ
-  file = c.before.before.before.before.before.args.file.now
+  file = c.args.file.now
 
   abbrev at : ℕ
-  at = c.before.before.before.before.before.args.at.0
+  at = c.args.at.0
 
   abbrev width : ℕ
-  width = c.before.width.given.0.0
+  width = c.in-Value.width
 
   abbrev after : ℕ
-  after = c.before.width.given.0.1.0.0
+  after = c.in-Value.after_width.0
 
   width_is : dimension.decode at at (drop at file) ≡ ok (decoded width after (drop after file))
   width_is =
-      let r = c.before.before.before in
-      value_read dimension-advances file at r.read-nonzero.result (as-dimension _ _ _ r.read-nonzero.ensures) _ _ c.before.width.given.1
+      value_read dimension-advances file at c.read_nonzero.result (as-dimension _ _ _ c.read_nonzero.ensures) _ _ c.in-Value.is
 
-returns : tie.Need-returns
+returns : tie.Need-returns-in-Refused
 returns c =
-    let r = c.before.before.before.before in
     c.refused.ensures
     ∙ width-refused _ _ _ _
-    (refusal-read dimension-advances _ _ r.read-nonzero.result (as-dimension _ _ _ r.read-nonzero.ensures) _ _ c.before.before.status.given.1)
+    (refusal-read dimension-advances _ _ c.read_nonzero.result (as-dimension _ _ _ c.read_nonzero.ensures) _ _ c.in-Refused.is)
 
-returns-2 : tie.Need-returns-2
+returns-2 : tie.Need-returns-in-Refused-read_nonzero
 returns-2 c =
-    let r = c.before.before.before.before in
-    let w = r.before in
-    c.refused2.ensures
+    let w = c.before.before.before in
+    c.refused-in-Refused-read_nonzero.ensures
     ∙ height-refused (file w) (at w) (width w) (after w) (width_is w) _ _
-    (refusal-read dimension-advances _ _ r.read-nonzero2.result (as-dimension _ _ _ r.read-nonzero2.ensures) _ _ c.before.before.status2.given.1)
+    (refusal-read dimension-advances _ _ c.read_nonzero-in-Value.result (as-dimension _ _ _ c.read_nonzero-in-Value.ensures) _ _ c.in-Refused-read_nonzero.is)
 
-returns-3 : tie.Need-returns-3
+returns-3 : tie.Need-returns-in-Value-read_nonzero
 returns-3 c =
-    let r = c.before.before.before in
-    let w = r.before in
+    let w = c.before.before in
     both_read (file w) (at w) (width w) (after w) (width_is w) _ _
-    (value_read dimension-advances _ _ r.read-nonzero2.result (as-dimension _ _ _ r.read-nonzero2.ensures) _ _ c.before.height.given.1)
+    (value_read dimension-advances _ _ c.read_nonzero-in-Value.result (as-dimension _ _ _ c.read_nonzero-in-Value.ensures) _ _ c.in-Value-read_nonzero.is)
 
 pub read_spec : {M : Type 1} → statement M
 read_spec =

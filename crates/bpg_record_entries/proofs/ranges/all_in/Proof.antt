@@ -6,7 +6,7 @@ use Rattle.bpg_record_entries.proofs.ranges.all_in.Tie as tie
 
 returns : tie.Need-returns
 unfolding ranges_in_source
-returns c = rw (c.before.payloads-in.ensures, c.is-in.ensures)
+returns c = rw (c.payloads_in.ensures, c.is_in.ensures)
 
-pub all-in-spec : {M : Type 1} → statement M
-all-in-spec = tie.close (tie.spec (λ c κs. search rules) (λ c κs. search rules) returns)
+pub all_in_spec : {M : Type 1} → statement M
+all_in_spec = tie.close (tie.spec (λ c κs. search rules) (λ c κs. search rules) returns)

@@ -13,10 +13,10 @@ use borrow.Author.Rules.{rules}
 use Rattle.bpg_record_entries.proofs.ranges.payloads_in.Statement.{statement}
 use Rattle.bpg_record_entries.proofs.ranges.payloads_in.Tie as tie
 
-abbrev invariant-loop : tie.invariant-loop
+abbrev invariant-loop : tie.invariant-loop-k
 invariant-loop source entries count k₀ k = entries_in_source source (drop k (take count entries)) ≡ entries_in_source source (take count entries)
 
-abbrev decreases-loop : tie.decreases-loop
+abbrev decreases-loop : tie.decreases-loop-k
 decreases-loop source entries count k₀ k = count - k
 
 -- the array has its length
@@ -24,40 +24,39 @@ whole : (c : tie.Start invariant-loop decreases-loop) → length c.args.«record
 whole c = search entries-count
 
 -- those in use are no more than there are
-module _ (l : tie.At-loop invariant-loop decreases-loop) where
+module _ (l : tie.At-loop-k invariant-loop decreases-loop) where
   abbrev begun : tie.Start invariant-loop decreases-loop
   begun = l.before.before.before.before
 
-  most : l.before.used-count.result ≤ length begun.args.«record».entries
-  most = used-most begun.args.«record».entries _ begun.args.«record».entry_count (whole begun) l.before.used-count.ensures
+  most : l.used_count-count.result ≤ length begun.args.«record».entries
+  most = used-most begun.args.«record».entries _ begun.args.«record».entry_count (whole begun) l.used_count-count.ensures
 
-  all-used : take l.before.used-count.result begun.args.«record».entries ≡ used_entries begun.args.«record»
-  all-used = used_all _ _ _ (whole begun) l.before.used-count.ensures
+  all-used : take l.used_count-count.result begun.args.«record».entries ≡ used_entries begun.args.«record»
+  all-used = used_all _ _ _ (whole begun) l.used_count-count.ensures
 
-loop-holds : tie.Need-loop-init invariant-loop decreases-loop
+loop-holds : tie.Need-loop-k-init invariant-loop decreases-loop
 loop-holds c = refl
 
-returns : tie.Need-returns invariant-loop decreases-loop
+returns : tie.Need-returns-then-not-is_in invariant-loop decreases-loop
 returns c =
     let l = c.before.before.before.before.before in
-    payload-outside _ _ _ _ (most l) l.loop.invariant _ c.before.before.before.before.loop-test.true
-    (sym c.before.is-in.ensures ∙ not-true _ c.if1.true)
+    payload-outside _ _ _ _ (most l) c.loop-k.invariant _ c.loop-k-test.true
+    (sym c.is_in.ensures ∙ c.if-not-is_in.true)
     ∙ ap (entries_in_source _) (all-used l)
 
-loop-less : tie.Need-loop-smaller invariant-loop decreases-loop
-loop-less c = omega (arith, c.before.before.before.before.loop-test.true)
+loop-less : tie.Need-loop-k-smaller invariant-loop decreases-loop
+loop-less c = omega (arith, c.loop-k-test.true)
 
-loop-again : tie.Need-loop-preserved invariant-loop decreases-loop
+loop-again : tie.Need-loop-k-preserved invariant-loop decreases-loop
 loop-again c =
-    let l = c.before.before.before.before.before in
-    payload-inside _ _ _ _ (most l) l.loop.invariant _ c.before.before.before.before.loop-test.true
-    (sym c.before.is-in.ensures ∙ not-false _ c.if1.false)
+    payload-inside _ _ _ _ (most c.before.before.before.before.before) c.loop-k.invariant _ c.loop-k-test.true
+    (sym c.is_in.ensures ∙ c.if-not-is_in.false)
 
-returns-2 : tie.Need-returns-2 invariant-loop decreases-loop
-returns-2 c = let l = c.before in payloads-inside _ _ _ _ l.loop.invariant c.loop-test.false ∙ ap (entries_in_source _) (all-used l)
+returns-2 : tie.Need-returns invariant-loop decreases-loop
+returns-2 c = payloads-inside _ _ _ _ c.loop-k.invariant c.loop-k-test.false ∙ ap (entries_in_source _) (all-used c.before)
 
-pub payloads-in-spec : {M : Type 1} → statement M
-payloads-in-spec =
+pub payloads_in_spec : {M : Type 1} → statement M
+payloads_in_spec =
     tie.close
     (tie.spec
     invariant-loop decreases-loop (λ c κs. search rules) loop-holds (λ c. search rules) (λ c. search rules)

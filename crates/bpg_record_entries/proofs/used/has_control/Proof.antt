@@ -15,11 +15,11 @@ use borrow.Author.Rules.{rules}
 use Rattle.bpg_record_entries.proofs.used.has_control.Statement.{statement}
 use Rattle.bpg_record_entries.proofs.used.has_control.Tie as tie
 
-abbrev invariant-loop : tie.invariant-loop
+abbrev invariant-loop : tie.invariant-loop-k
 invariant-loop entries count k₀ k =
     (source : List ℕ) → has_animation (map (extension_of source) (drop k (take count entries))) ≡ has_animation (map (extension_of source) (take count entries))
 
-abbrev decreases-loop : tie.decreases-loop
+abbrev decreases-loop : tie.decreases-loop-k
 decreases-loop entries count k₀ k = count - k
 
 -- the array has its length
@@ -27,40 +27,39 @@ whole : (c : tie.Start invariant-loop decreases-loop) → length c.args.«record
 whole c = search entries-count
 
 -- those in use are no more than there are
-module _ (l : tie.At-loop invariant-loop decreases-loop) where
+module _ (l : tie.At-loop-k invariant-loop decreases-loop) where
   abbrev begun : tie.Start invariant-loop decreases-loop
   begun = l.before.before.before
 
-  most : l.before.used-count.result ≤ length begun.args.«record».entries
-  most = used-most begun.args.«record».entries _ begun.args.«record».entry_count (whole begun) l.before.used-count.ensures
+  most : l.used_count-count.result ≤ length begun.args.«record».entries
+  most = used-most begun.args.«record».entries _ begun.args.«record».entry_count (whole begun) l.used_count-count.ensures
 
   abbrev has : (source : List ℕ) → List Entry → Bool
   has source es = has_animation (map (extension_of source) es)
 
-  all-used : (source : List ℕ) → has source (take l.before.used-count.result begun.args.«record».entries) ≡ has source (used_entries begun.args.«record»)
-  all-used source = ap (has source) (used_all _ _ _ (whole begun) l.before.used-count.ensures)
+  all-used : (source : List ℕ) → has source (take l.used_count-count.result begun.args.«record».entries) ≡ has source (used_entries begun.args.«record»)
+  all-used source = ap (has source) (used_all _ _ _ (whole begun) l.used_count-count.ensures)
 
-loop-holds : tie.Need-loop-init invariant-loop decreases-loop
+loop-holds : tie.Need-loop-k-init invariant-loop decreases-loop
 loop-holds c = λ source. refl
 
-returns : tie.Need-returns invariant-loop decreases-loop
+returns : tie.Need-returns-then-entry-eq5 invariant-loop decreases-loop
 returns c =
     let l = c.before.before.before.before in
-    λ source. control-found source _ _ _ (l.loop.invariant source) _ (most l) c.before.before.before.loop-test.true c.if1.true ∙ all-used l source
+    λ source. control-found source _ _ _ (c.loop-k.invariant source) _ (most l) c.loop-k-test.true c.if-entry-eq5.true ∙ all-used l source
 
-loop-less : tie.Need-loop-smaller invariant-loop decreases-loop
-loop-less c = omega (arith, c.before.before.before.loop-test.true)
+loop-less : tie.Need-loop-k-smaller invariant-loop decreases-loop
+loop-less c = omega (arith, c.loop-k-test.true)
 
-loop-again : tie.Need-loop-preserved invariant-loop decreases-loop
+loop-again : tie.Need-loop-k-preserved invariant-loop decreases-loop
 loop-again c =
-    let l = c.before.before.before.before in
-    λ source. control-further source _ _ _ (l.loop.invariant source) _ (most l) c.before.before.before.loop-test.true c.if1.false
+    λ source. control-further source _ _ _ (c.loop-k.invariant source) _ (most c.before.before.before.before) c.loop-k-test.true c.if-entry-eq5.false
 
-returns-2 : tie.Need-returns-2 invariant-loop decreases-loop
-returns-2 c = let l = c.before in λ source. no-control source _ _ _ (l.loop.invariant source) c.loop-test.false ∙ all-used l source
+returns-2 : tie.Need-returns invariant-loop decreases-loop
+returns-2 c = λ source. no-control source _ _ _ (c.loop-k.invariant source) c.loop-k-test.false ∙ all-used c.before source
 
-pub has-control-spec : {M : Type 1} → statement M
-has-control-spec =
+pub has_control_spec : {M : Type 1} → statement M
+has_control_spec =
     tie.close
     (tie.spec
     invariant-loop decreases-loop (λ c κs. search rules) loop-holds (λ c. search rules) (λ c. search rules) returns

@@ -12,10 +12,10 @@ use borrow.Author.Rules.{rules}
 use Rattle.bpg_record_entries.proofs.used.unused_zero.Statement.{statement}
 use Rattle.bpg_record_entries.proofs.used.unused_zero.Tie as tie
 
-abbrev invariant-loop : tie.invariant-loop
+abbrev invariant-loop : tie.invariant-loop-k
 invariant-loop entries k₀ k = zero_entries (drop k entries) ≡ zero_entries (drop k₀ entries)
 
-abbrev decreases-loop : tie.decreases-loop
+abbrev decreases-loop : tie.decreases-loop-k
 decreases-loop entries k₀ k = max_entries - k
 
 -- the array has its length
@@ -23,31 +23,29 @@ whole : (c : tie.Start invariant-loop decreases-loop) → length c.args.«record
 whole c = search entries-count
 
 -- what is left decides
-rest : (c : tie.At-loop invariant-loop decreases-loop) → zero_entries (drop c.loop.k c.before.before.before.args.«record».entries) ≡ unused_zero c.before.before.before.args.«record»
-rest c = c.loop.invariant ∙ unused-begins _
+rest : (c : tie.At-loop-k invariant-loop decreases-loop) → zero_entries (drop c.loop-k.k c.args.«record».entries) ≡ unused_zero c.args.«record»
+rest c = c.loop-k.invariant ∙ unused-begins _
 
-loop-holds : tie.Need-loop-init invariant-loop decreases-loop
+loop-holds : tie.Need-loop-k-init invariant-loop decreases-loop
 loop-holds c = refl
 
-returns : tie.Need-returns invariant-loop decreases-loop
+returns : tie.Need-returns-then-not-is_zero invariant-loop decreases-loop
 returns c =
-    let l = c.before.before.before.before in
-    unused-set _ _ (whole l.before.before.before) (rest l) _ c.before.before.before.loop-test.true (sym c.before.is_zero.ensures ∙ not-true _ c.if1.true)
+    unused-set _ _ (whole c.before.before.before.before.before.before.before) (rest c.before.before.before.before) _ c.loop-k-test.true (sym c.is_zero.ensures ∙ c.if-not-is_zero.true)
 
-loop-less : tie.Need-loop-smaller invariant-loop decreases-loop
-loop-less c = omega (arith, c.before.before.before.loop-test.true)
+loop-less : tie.Need-loop-k-smaller invariant-loop decreases-loop
+loop-less c = omega (arith, c.loop-k-test.true)
 
-loop-again : tie.Need-loop-preserved invariant-loop decreases-loop
+loop-again : tie.Need-loop-k-preserved invariant-loop decreases-loop
 loop-again c =
-    let l = c.before.before.before.before in
-    unused-clear _ _ (whole l.before.before.before) (rest l) _ c.before.before.before.loop-test.true
-    (sym c.before.is_zero.ensures ∙ not-false _ c.if1.false) ∙ sym (unused-begins _)
+    unused-clear _ _ (whole c.before.before.before.before.before.before.before) (rest c.before.before.before.before) _ c.loop-k-test.true
+    (sym c.is_zero.ensures ∙ c.if-not-is_zero.false) ∙ sym (unused-begins _)
 
-returns-2 : tie.Need-returns-2 invariant-loop decreases-loop
-returns-2 c = let l = c.before in all-clear _ _ (whole l.before.before.before) (rest l) c.loop-test.false
+returns-2 : tie.Need-returns invariant-loop decreases-loop
+returns-2 c = all-clear _ _ (whole c.before.before.before.before) (rest c.before) c.loop-k-test.false
 
-pub unused-zero-spec : {M : Type 1} → statement M
-unused-zero-spec =
+pub unused_zero_spec : {M : Type 1} → statement M
+unused_zero_spec =
     tie.close
     (tie.spec
     invariant-loop decreases-loop (λ c. search rules) loop-holds (λ c. search rules) (λ c. search rules)

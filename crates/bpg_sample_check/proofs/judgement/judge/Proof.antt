@@ -12,41 +12,41 @@ use Rattle.bpg_sample_check.proofs.JudgeLaws.{by-31, by-32, by-33, by-none}
 use Rattle.bpg_sample_check.proofs.judgement.judge.Statement.{statement}
 use Rattle.bpg_sample_check.proofs.judgement.judge.Tie as tie
 
-returns : tie.Need-returns
-returns c = c.refused.ensures ∙ ap answer_of (sym (by-31 _ _ _ _ (sym c.before.before.all-equal.ensures ∙ not-true _ c.before.if1.true)))
+returns : tie.Need-returns-then-not-all_equal
+returns c = c.refused.ensures ∙ ap answer_of (sym (by-31 _ _ _ _ (sym c.all_equal.ensures ∙ c.if-not-all_equal.true)))
 
-abbrev start : tie.Else1 → tie.Start
+abbrev start : tie.Else-not-all_equal → tie.Start
 start c = c.before.before.before
 
 -- the lengths are equal
-equal : (c : tie.Else1) → every (λ n. eqb n (start c).args.count) (start c).args.lengths.now ≡ true
-equal c = sym c.before.all-equal.ensures ∙ not-false _ c.if1.false
+equal : (c : tie.Else-not-all_equal) → every (λ n. eqb n (start c).args.count) (start c).args.lengths.now ≡ true
+equal c = sym c.all_equal.ensures ∙ c.if-not-all_equal.false
 
-returns-2 : tie.Need-returns-2
+returns-2 : tie.Need-returns-then-not-depth_known
 returns-2 c =
-    c.refused2.ensures
-    ∙ ap answer_of (sym (by-32 _ _ _ _ (equal c.before.before.before) (sym c.before.before.depth-known.ensures ∙ not-true _ c.before.if2.true)))
+    c.refused-then-not-depth_known.ensures
+    ∙ ap answer_of (sym (by-32 _ _ _ _ (equal c.before.before.before) (sym c.depth_known.ensures ∙ c.if-not-depth_known.true)))
 
 -- and so is the depth known
-known : (c : tie.Else2) → (leb 8 (start c.before.before).args.depth && leb (start c.before.before).args.depth 14) ≡ true
-known c = sym c.before.depth-known.ensures ∙ not-false _ c.if2.false
+known : (c : tie.Else-not-depth_known) → (leb 8 (start c.before.before).args.depth && leb (start c.before.before).args.depth 14) ≡ true
+known c = sym c.depth_known.ensures ∙ c.if-not-depth_known.false
 
-returns-3 : tie.Need-returns-3
+returns-3 : tie.Need-returns-then-max_sample-top
 returns-3 c =
-    let k = known c.before.before.before in
-    let m = c.before.before.max-sample.ensures in
     let l = c.before.before.before.before.before in
-    c.refused3.ensures ∙ ap answer_of (sym (by-33 _ _ _ _ (equal l) k (above-max _ k m (start l).args.top (omega arith))))
+    let k = known c.before.before.before in
+    let m = c.max_sample.ensures in
+    c.refused-then-max_sample-top.ensures ∙ ap answer_of (sym (by-33 _ _ _ _ (equal l) k (above-max _ k m (start l).args.top (omega arith))))
 
-returns-4 : tie.Need-returns-4
+returns-4 : tie.Need-returns
 returns-4 c =
-    let k = known c.before.before in
-    let m = c.before.max-sample.ensures in
     let l = c.before.before.before.before in
+    let k = known c.before.before in
+    let m = c.max_sample.ensures in
     ap answer_of (sym (by-none _ _ _ _ (equal l) k (within-max _ k m (start l).args.top (omega arith))))
 
-pub judge-spec : {M : Type 1} → statement M
-judge-spec =
+pub judge_spec : {M : Type 1} → statement M
+judge_spec =
     tie.close
     (tie.spec
     (λ c κs. search rules)

@@ -7,14 +7,14 @@ use Rattle.bpg_sample_check.proofs.LargestLaws.{LargestSoFar, largest-begins, la
 use Rattle.bpg_sample_check.proofs.largest.largest_with.Statement.{statement}
 use Rattle.bpg_sample_check.proofs.largest.largest_with.Tie as tie
 
-abbrev invariant-loop : tie.invariant-loop
+abbrev invariant-loop : tie.invariant-loop-i
 invariant-loop plane top found₀ i₀ found i = LargestSoFar plane top found i
 
-abbrev decreases-loop : tie.decreases-loop
+abbrev decreases-loop : tie.decreases-loop-i
 decreases-loop plane top found₀ i₀ found i = length plane - i
 
-pub largest-with-spec : {M : Type 1} → statement M
-largest-with-spec =
+pub largest_with_spec : {M : Type 1} → statement M
+largest_with_spec =
     tie.close
     (tie.spec
     invariant-loop decreases-loop (λ c. search largest-begins) (λ c. omega arith) (λ c. omega arith) (λ c κs. search rules)

@@ -8,7 +8,7 @@ use Rattle.bpg_sample_check.proofs.planes.judge_1.Tie as tie
 returns : tie.Need-returns
 returns c =
     judged-with _ _ _ _ c.judge.ensures
-    (largest-of-more _ _ c.before.largest-with.ensures largest-of-none)
+    (largest-of-more _ _ c.largest_with-top.ensures largest-of-none)
 
-pub judge-1-spec : {M : Type 1} → statement M
-judge-1-spec = tie.close (tie.spec (λ c κs. search rules) (λ c κs. search rules) returns)
+pub judge_1_spec : {M : Type 1} → statement M
+judge_1_spec = tie.close (tie.spec (λ c κs. search rules) (λ c κs. search rules) returns)

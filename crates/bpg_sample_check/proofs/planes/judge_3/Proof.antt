@@ -8,10 +8,10 @@ use Rattle.bpg_sample_check.proofs.planes.judge_3.Tie as tie
 returns : tie.Need-returns
 returns c =
     judged-with _ _ _ _ c.judge.ensures
-    (largest-of-more _ _ c.before.largest-with3.ensures
-    (largest-of-more _ _ c.before.before.largest-with2.ensures
-    (largest-of-more _ _ c.before.before.before.largest-with.ensures
+    (largest-of-more _ _ c.largest_with-top.ensures
+    (largest-of-more _ _ c.largest_with-2.ensures
+    (largest-of-more _ _ c.largest_with.ensures
     largest-of-none)))
 
-pub judge-3-spec : {M : Type 1} → statement M
-judge-3-spec = tie.close (tie.spec (λ c κs. search rules) (λ c κs. search rules) (λ c κs. search rules) (λ c κs. search rules) returns)
+pub judge_3_spec : {M : Type 1} → statement M
+judge_3_spec = tie.close (tie.spec (λ c κs. search rules) (λ c κs. search rules) (λ c κs. search rules) (λ c κs. search rules) returns)

@@ -8,11 +8,11 @@ use Rattle.bpg_sample_check.proofs.planes.judge_4.Tie as tie
 returns : tie.Need-returns
 returns c =
     judged-with _ _ _ _ c.judge.ensures
-    (largest-of-more _ _ c.before.largest-with4.ensures
-    (largest-of-more _ _ c.before.before.largest-with3.ensures
-    (largest-of-more _ _ c.before.before.before.largest-with2.ensures
-    (largest-of-more _ _ c.before.before.before.before.largest-with.ensures
+    (largest-of-more _ _ c.largest_with-top.ensures
+    (largest-of-more _ _ c.largest_with-3.ensures
+    (largest-of-more _ _ c.largest_with-2.ensures
+    (largest-of-more _ _ c.largest_with.ensures
     largest-of-none))))
 
-pub judge-4-spec : {M : Type 1} → statement M
-judge-4-spec = tie.close (tie.spec (λ c κs. search rules) (λ c κs. search rules) (λ c κs. search rules) (λ c κs. search rules) (λ c κs. search rules) returns)
+pub judge_4_spec : {M : Type 1} → statement M
+judge_4_spec = tie.close (tie.spec (λ c κs. search rules) (λ c κs. search rules) (λ c κs. search rules) (λ c κs. search rules) (λ c κs. search rules) returns)

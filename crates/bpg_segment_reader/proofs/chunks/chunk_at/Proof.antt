@@ -6,5 +6,5 @@ use Rattle.bpg_segment_reader.proofs.chunks.chunk_at.Tie as tie
 returns : tie.Need-returns
 returns c = c.part_at.ensures
 
-pub chunk-at-spec : {M : Type 1} → statement M
-chunk-at-spec = tie.close (tie.spec (λ c. search rules) (λ c κs. search rules) returns)
+pub chunk_at_spec : {M : Type 1} → statement M
+chunk_at_spec = tie.close (tie.spec (λ c. search rules) (λ c κs. search rules) returns)

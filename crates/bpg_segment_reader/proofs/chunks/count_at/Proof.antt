@@ -8,8 +8,7 @@ use Rattle.bpg_segment_reader.proofs.chunks.count_at.Tie as tie
 
 returns : tie.Need-returns
 returns c =
-    let s = c.before.before in
-    (c.byte_at.ensures ∙ sym (get_or-drop s.args.at s.args.run.now 17 0), omega arith)
+    (c.byte_at.ensures ∙ sym (get_or-drop c.args.at c.args.run.now 17 0), omega arith)
 
-pub count-at-spec : {M : Type 1} → statement M
-count-at-spec = tie.close (tie.spec (λ c. search rules) (λ c κs. search rules) (λ c. search rules) returns)
+pub count_at_spec : {M : Type 1} → statement M
+count_at_spec = tie.close (tie.spec (λ c. search rules) (λ c κs. search rules) (λ c. search rules) returns)

@@ -9,67 +9,52 @@ use Rattle.bpg_segment_reader.proofs.ChunkLaws.{Walked, walked_none, walked_end,
 use Rattle.bpg_segment_reader.proofs.chunks.judge_chunks.Statement.{statement}
 use Rattle.bpg_segment_reader.proofs.chunks.judge_chunks.Tie as tie
 
-abbrev invariant-loop : tie.invariant-loop
+abbrev invariant-loop : tie.invariant-loop-k
 invariant-loop run at total p₀ length₀ k₀ p len k = (k ≤ total) × (p ≤ length run) × (len ≤ p) × Walked run total p₀ p len k
 
-abbrev decreases-loop : tie.decreases-loop
+abbrev decreases-loop : tie.decreases-loop-k
 decreases-loop run at total p₀ length₀ k₀ p len k = total - k
 
-loop-holds : tie.Need-loop-init invariant-loop decreases-loop
+loop-holds : tie.Need-loop-k-init invariant-loop decreases-loop
 loop-holds c =
-    let s = c.before.before in
-    (omega arith, s.requires, omega arith, walked_none s.args.run.now c.count_at.result s.args.at)
+    (omega arith, c.requires, omega arith, walked_none c.args.run.now c.count_at-total.result c.args.at)
 
-cast-chunk-at : tie.Need-overflow-cast-chunk-at invariant-loop decreases-loop
-cast-chunk-at c = omega (arith, c.before.before.count_at.ensures.1)
+cast-chunk-at : tie.Need-overflow_cast-k invariant-loop decreases-loop
+cast-chunk-at c = omega (arith, c.count_at-total.ensures.1)
 
-cast-chunk-at-2 : tie.Need-overflow-cast-chunk-at-2 invariant-loop decreases-loop
-cast-chunk-at-2 c = omega (arith, c.before.before.count_at.ensures.1)
+cast-chunk-at-2 : tie.Need-overflow_cast-total invariant-loop decreases-loop
+cast-chunk-at-2 c = omega (arith, c.count_at-total.ensures.1)
 
-returns : tie.Need-returns invariant-loop decreases-loop
+returns : tie.Need-returns-then-size-eq0 invariant-loop decreases-loop
 returns c =
-    let g = c.before.before in
-    let l = g.before in
-    let a = l.before in
-    let s = a.before.before.before in
-    icc-is (drop s.args.at s.args.run.now) a.before.count_at.result a.before.count_at.ensures.0
-    ∙ walked-none-there s.args.run.now a.before.count_at.result s.args.at a.loop.p a.loop.length a.loop.k a.loop.invariant.3 g.chunk-at.result
-    g.chunk-at.ensures l.loop-test.true c.if1.true
+    icc-is (drop c.args.at c.args.run.now) c.count_at-total.result c.count_at-total.ensures.0
+    ∙ walked-none-there c.args.run.now c.count_at-total.result c.args.at c.loop-k.p c.loop-k.length c.loop-k.k c.loop-k.invariant.3 c.chunk_at-chunk.result
+    c.chunk_at-chunk.ensures c.loop-k-test.true c.if-size-eq0.true
 
-returns-2 : tie.Need-returns-2 invariant-loop decreases-loop
+returns-2 : tie.Need-returns-then-not-is_full invariant-loop decreases-loop
 returns-2 c =
-    let g = c.before.before.before.before in
-    let l = g.before in
-    let a = l.before in
-    let s = a.before.before.before in
-    icc-is (drop s.args.at s.args.run.now) a.before.count_at.result a.before.count_at.ensures.0
-    ∙ walked-short s.args.run.now a.before.count_at.result s.args.at a.loop.p a.loop.length a.loop.k a.loop.invariant.3 g.chunk-at.result
-    g.chunk-at.ensures l.loop-test.true c.before.before.if1.false (sym c.before.is-full.ensures ∙ not-true _ c.if2.true)
+    icc-is (drop c.args.at c.args.run.now) c.count_at-total.result c.count_at-total.ensures.0
+    ∙ walked-short c.args.run.now c.count_at-total.result c.args.at c.loop-k.p c.loop-k.length c.loop-k.k c.loop-k.invariant.3 c.chunk_at-chunk.result
+    c.chunk_at-chunk.ensures c.loop-k-test.true c.if-size-eq0.false (sym c.is_full.ensures ∙ c.if-not-is_full.true)
 
-loop-again : tie.Need-loop-preserved invariant-loop decreases-loop
+loop-again : tie.Need-loop-k-preserved invariant-loop decreases-loop
 loop-again c =
-    let g = c.before.before.before.before in
-    let l = g.before in
-    let a = l.before in
-    let s = a.before.before.before in
-    let f = g.chunk-at.ensures in (
-      omega (arith, l.loop-test.true),
+    let f = c.chunk_at-chunk.ensures in (
+      omega (arith, c.loop-k-test.true),
       f.inside,
-      omega (arith, f.from, f.ordered, a.loop.invariant.2),
-      walked_more s.args.run.now a.before.count_at.result s.args.at a.loop.p a.loop.length a.loop.k a.loop.invariant.3 g.chunk-at.result
-          g.chunk-at.ensures l.loop-test.true c.before.before.if1.false (sym c.before.is-full.ensures ∙ not-false _ c.if2.false),
+      omega (arith, f.from, f.ordered, c.loop-k.invariant.2),
+      walked_more c.args.run.now c.count_at-total.result c.args.at c.loop-k.p c.loop-k.length c.loop-k.k c.loop-k.invariant.3 c.chunk_at-chunk.result
+          c.chunk_at-chunk.ensures c.loop-k-test.true c.if-size-eq0.false (sym c.is_full.ensures ∙ c.if-not-is_full.false),
     )
 
-returns-3 : tie.Need-returns-3 invariant-loop decreases-loop
+returns-3 : tie.Need-returns invariant-loop decreases-loop
 returns-3 c =
-    let a = c.before in
-    let s = a.before.before.before in
-    icc-is (drop s.args.at s.args.run.now) a.before.count_at.result a.before.count_at.ensures.0
-    ∙ walked_end s.args.run.now a.before.count_at.result s.args.at a.loop.p a.loop.length a.loop.k a.loop.invariant.3
-    (omega (arith, c.loop-test.false, a.loop.invariant.0)) a.loop.invariant.1
+    icc-is (drop c.args.at c.args.run.now) c.count_at-total.result c.count_at-total.ensures.0
+    ∙ walked_end c.args.run.now c.count_at-total.result c.args.at c.loop-k.p c.loop-k.length c.loop-k.k c.loop-k.invariant.3
+    (omega (arith, c.loop-k-test.false, c.loop-k.invariant.0)) c.loop-k.invariant.1
 
-pub judge-chunks-spec : {M : Type 1} → statement M
-judge-chunks-spec =
+pub judge_chunks_spec : {M : Type 1} → statement M
+judge_chunks_spec =
     tie.close
     (tie.spec
     invariant-loop

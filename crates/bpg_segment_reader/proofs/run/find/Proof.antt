@@ -6,10 +6,7 @@ use Rattle.bpg_segment_reader.proofs.run.find.Tie as tie
 
 returns : tie.Need-returns
 returns c =
-    let x = c.before in
-    let e = x.before.before in
-    let s = e.before.before.before in
-    found s.args.run.now e.part_at.result x.part-at2.result e.part_at.ensures x.part-at2.ensures c.judge-chunks.result c.judge-chunks.ensures
+    found c.args.run.now c.part_at-exif.result c.part_at-xmp.result c.part_at-exif.ensures c.part_at-xmp.ensures c.judge_chunks-icc.result c.judge_chunks-icc.ensures
 
 pub find_spec : {M : Type 1} → statement M
 find_spec =

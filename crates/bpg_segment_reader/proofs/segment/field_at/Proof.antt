@@ -5,33 +5,30 @@ use borrow.Author.Rules.{rules}
 use Rattle.bpg_segment_reader.proofs.segment.field_at.Statement.{statement}
 use Rattle.bpg_segment_reader.proofs.segment.field_at.Tie as tie
 
-returns : tie.Need-returns
-returns c = let s = c.before.before in short s.args.run.now s.args.at s.args.marker c.if1.true
+returns : tie.Need-returns-then-left-lt4
+returns c = short c.args.run.now c.args.at c.args.marker c.if-left-lt4.true
 
-returns-2 : tie.Need-returns-2
-returns-2 c = let s = c.before.before.before.before in not_first s.args.run.now s.args.at s.args.marker c.if2.true
+returns-2 : tie.Need-returns-then-run-at
+returns-2 c = not_first c.args.run.now c.args.at c.args.marker c.if-run-at.true
 
-returns-3 : tie.Need-returns-3
-returns-3 c = let s = c.before.before.before.before.before.before in not-second s.args.run.now s.args.at s.args.marker c.if3.true
+returns-3 : tie.Need-returns-then-run-at-2
+returns-3 c = not-second c.args.run.now c.args.at c.args.marker c.if-run-at-2.true
 
-returns-4 : tie.Need-returns-4
+returns-4 : tie.Need-returns-then-field-lt2
 returns-4 c =
-    let s = c.before.before.before.before.before.before.before.before.before.before in
-    too_small s.args.run.now s.args.at s.args.marker _ c.before.number.ensures.0 c.if4.true
+    too_small c.args.run.now c.args.at c.args.marker _ c.number-field.ensures.0 c.if-field-lt2.true
 
-returns-5 : tie.Need-returns-5
+returns-5 : tie.Need-returns-then-left-field
 returns-5 c =
-    let s = c.before.before.before.before.before.before.before.before.before.before.before in
-    too_large s.args.run.now s.args.at s.args.marker _ c.before.before.number.ensures.0 c.if5.true
+    too_large c.args.run.now c.args.at c.args.marker _ c.number-field.ensures.0 c.if-left-field.true
 
-returns-6 : tie.Need-returns-6
+returns-6 : tie.Need-returns
 returns-6 c =
-    let s = c.before.before.before.before.before.before.before.before.before.before.before in
-    whole s.args.run.now s.args.at s.args.marker _ c.before.before.number.ensures.0 c.before.before.before.before.before.before.before.if2.false
-    c.before.before.before.before.before.if3.false (omega (arith, c.before.if4.false)) (omega (arith, c.if5.false))
+    whole c.args.run.now c.args.at c.args.marker _ c.number-field.ensures.0 c.if-run-at.false
+    c.if-run-at-2.false (omega (arith, c.if-field-lt2.false)) (omega (arith, c.if-left-field.false))
 
-pub field-at-spec : {M : Type 1} → statement M
-field-at-spec =
+pub field_at_spec : {M : Type 1} → statement M
+field_at_spec =
     tie.close
     (tie.spec
     (λ c. search rules)

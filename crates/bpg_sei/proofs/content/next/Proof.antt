@@ -6,33 +6,26 @@ use Rattle.bpg_sei.proofs.StepLaws.{no_step, past_end, step-byte, mark-last, ste
 use Rattle.bpg_sei.proofs.content.next.Statement.{statement}
 use Rattle.bpg_sei.proofs.content.next.Tie as tie
 
-returns : tie.Need-returns
-returns c = let a = c.before.before.args in no_step _ _ _ refl (past_end a.unit.now a.cursor c.if1.true)
+returns : tie.Need-returns-then-unit-at
+returns c = let a = c.args in no_step _ _ _ refl (past_end a.unit.now a.cursor c.if-unit-at.true)
 
-returns-2 : tie.Need-returns-2
+returns-2 : tie.Need-returns-then-not-is_mark
 returns-2 c =
-    let m = c.before.before in
-    let e = m.before.before in
-    let a = e.before.before.args in
-    step-byte a.unit.now a.cursor e.if1.false (sym m.is-mark.ensures ∙ not-true _ c.before.if2.true) _ c.zeros-after.ensures
+    let a = c.args in
+    step-byte a.unit.now a.cursor c.if-unit-at.false (sym c.is_mark.ensures ∙ c.if-not-is_mark.true) _ c.zeros_after.ensures
 
-returns-3 : tie.Need-returns-3
+returns-3 : tie.Need-returns-then-unit-behind
 returns-3 c =
-    let m = c.before.before in
-    let e = m.before.before in
-    let a = e.before.before.args in
-    no_step _ _ _ refl (mark-last a.unit.now a.cursor e.if1.false (sym m.is-mark.ensures ∙ not-false _ c.before.if2.false) c.if3.true)
+    let a = c.args in
+    no_step _ _ _ refl (mark-last a.unit.now a.cursor c.if-unit-at.false (sym c.is_mark.ensures ∙ c.if-not-is_mark.false) c.if-unit-behind.true)
 
-returns-4 : tie.Need-returns-4
+returns-4 : tie.Need-returns
 returns-4 c =
-    let l = c.before.before in
-    let m = l.before.before in
-    let e = m.before.before in
-    let a = e.before.before.args in
-    step-mark a.unit.now a.cursor e.if1.false (sym m.is-mark.ensures ∙ not-false _ l.before.if2.false) l.if3.false _ c.zeros-after2.ensures
+    let a = c.args in
+    step-mark a.unit.now a.cursor c.if-unit-at.false (sym c.is_mark.ensures ∙ c.if-not-is_mark.false) c.if-unit-behind.false _ c.zeros_after-2.ensures
 
-pub next-spec : {M : Type 1} → statement M
-next-spec =
+pub next_spec : {M : Type 1} → statement M
+next_spec =
     tie.close
     (tie.spec
     returns

@@ -6,36 +6,30 @@ use Rattle.bpg_sei.proofs.AnswerLaws.{duration-none, no-high, no-low, a-duration
 use Rattle.bpg_sei.proofs.message.duration.Statement.{statement}
 use Rattle.bpg_sei.proofs.message.duration.Tie as tie
 
-returns : tie.Need-returns
-returns c = duration-none _ _ _ _ c.cut_short.ensures (pay-odd _ _ c.before.if1.true)
+returns : tie.Need-returns-then-size-ne2
+returns c = duration-none _ _ _ _ c.cut_short.ensures (pay-odd _ _ c.if-size-ne2.true)
 
-returns-2 : tie.Need-returns-2
+returns-2 : tie.Need-returns-then-not-high
 returns-2 c =
-    let n = c.before.before.before in
-    let a = n.before.before.before.args in
-    duration-none _ _ _ _ c.cut-short2.ensures
-    (no-high a.unit.now a.cursor _ n.before.if1.false _ n.next.ensures (not-true _ c.before.if2.true))
+    let a = c.args in
+    duration-none _ _ _ _ c.cut_short-then-not-high.ensures
+    (no-high a.unit.now a.cursor _ c.if-size-ne2.false _ c.next-high.ensures (c.if-not-high.true))
 
-returns-3 : tie.Need-returns-3
+returns-3 : tie.Need-returns-then-not-low
 returns-3 c =
-    let m = c.before.before.before in
-    let n = m.before.before.before in
-    let a = n.before.before.before.args in
-    duration-none _ _ _ _ c.cut-short3.ensures
-    (no-low a.unit.now a.cursor _ n.before.if1.false _ n.next.ensures (not-false _ m.before.if2.false) _ m.next2.ensures
-    (not-true _ c.before.if3.true))
+    let a = c.args in
+    duration-none _ _ _ _ c.cut_short-then-not-low.ensures
+    (no-low a.unit.now a.cursor _ c.if-size-ne2.false _ c.next-high.ensures (c.if-not-high.false) _ c.next-low.ensures
+    (c.if-not-low.true))
 
-returns-4 : tie.Need-returns-4
+returns-4 : tie.Need-returns
 returns-4 c =
-    let l = c.before.before.before in
-    let m = l.before.before in
-    let n = m.before.before.before in
-    let a = n.before.before.before.args in
-    a-duration a.unit.now a.cursor _ n.before.if1.false _ n.next.ensures (not-false _ m.before.if2.false) _ m.next2.ensures
-    (not-false _ l.if3.false)
+    let a = c.args in
+    a-duration a.unit.now a.cursor _ c.if-size-ne2.false _ c.next-high.ensures (c.if-not-high.false) _ c.next-low.ensures
+    (c.if-not-low.false)
 
-pub duration-spec : {M : Type 1} → statement M
-duration-spec =
+pub duration_spec : {M : Type 1} → statement M
+duration_spec =
     tie.close
     (tie.spec
     (λ c κs. search rules)

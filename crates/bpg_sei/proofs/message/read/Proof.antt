@@ -12,49 +12,35 @@ use Rattle.bpg_sei.proofs.message.read.Tie as tie
 small : (c : tie.Start) → length c.args.unit.now < 2 ^ 63
 small c = omega arith
 
-returns : tie.Need-returns
+returns : tie.Need-returns-then-not-kind
 returns c =
-    let r = c.before.before.before in
-    let a = r.before.before.args in
-    message-none _ _ _ c.cut_short.ensures (no-type a.unit.now a.cursor _ r.read.ensures (not-true _ c.before.if1.true))
+    let a = c.args in
+    message-none _ _ _ c.cut_short.ensures (no-type a.unit.now a.cursor _ c.read-kind.ensures (c.if-not-kind.true))
 
-returns-2 : tie.Need-returns-2
+returns-2 : tie.Need-returns-then-not-size
 returns-2 c =
-    let s = c.before.before.before in
-    let r = s.before.before.before in
-    let a = r.before.before.args in
-    message-none _ _ _ c.cut-short2.ensures
-    (no_size a.unit.now a.cursor _ r.read.ensures (not-false _ s.before.if1.false) _ s.read2.ensures (not-true _ c.before.if2.true))
+    let a = c.args in
+    message-none _ _ _ c.cut_short-then-not-size.ensures
+    (no_size a.unit.now a.cursor _ c.read-kind.ensures (c.if-not-kind.false) _ c.read-size.ensures (c.if-not-size.true))
 
-returns-3 : tie.Need-returns-3
+returns-3 : tie.Need-returns-then-kind-eq-FRAME_DURATION
 returns-3 c =
-    let e = c.before.before.before in
-    let s = e.before.before in
-    let r = s.before.before.before in
-    let a = r.before.before.args in
-    timed-message a.unit.now a.cursor _ r.read.ensures (not-false _ s.before.if1.false) _ s.read2.ensures (not-false _ e.if2.false)
-    (small r.before.before) c.before.if3.true _ c.duration.ensures
+    let a = c.args in
+    timed-message a.unit.now a.cursor _ c.read-kind.ensures (c.if-not-kind.false) _ c.read-size.ensures (c.if-not-size.false)
+    (small c.before.before.before.before.before.before.before.before.before.before.before.before) c.if-kind-eq-FRAME_DURATION.true _ c.duration.ensures
 
-returns-4 : tie.Need-returns-4
+returns-4 : tie.Need-returns-then-not-past
 returns-4 c =
-    let k = c.before.before.before in
-    let e = k.before.before.before in
-    let s = e.before.before in
-    let r = s.before.before.before in
-    let a = r.before.before.args in
-    message-none _ _ _ c.cut-short3.ensures
-    (no_payload a.unit.now a.cursor _ r.read.ensures (not-false _ s.before.if1.false) _ s.read2.ensures (not-false _ e.if2.false)
-    (small r.before.before) k.before.if3.false _ k.skip.ensures (not-true _ c.before.if4.true))
+    let a = c.args in
+    message-none _ _ _ c.cut_short-then-not-past.ensures
+    (no_payload a.unit.now a.cursor _ c.read-kind.ensures (c.if-not-kind.false) _ c.read-size.ensures (c.if-not-size.false)
+    (small c.before.before.before.before.before.before.before.before.before.before.before.before.before.before.before) c.if-kind-eq-FRAME_DURATION.false _ c.skip-past.ensures (c.if-not-past.true))
 
-returns-5 : tie.Need-returns-5
+returns-5 : tie.Need-returns
 returns-5 c =
-    let k = c.before.before.before in
-    let e = k.before.before.before in
-    let s = e.before.before in
-    let r = s.before.before.before in
-    let a = r.before.before.args in
-    plain-message a.unit.now a.cursor _ r.read.ensures (not-false _ s.before.if1.false) _ s.read2.ensures (not-false _ e.if2.false)
-    (small r.before.before) k.before.if3.false _ k.skip.ensures (not-false _ c.before.if4.false)
+    let a = c.args in
+    plain-message a.unit.now a.cursor _ c.read-kind.ensures (c.if-not-kind.false) _ c.read-size.ensures (c.if-not-size.false)
+    (small c.before.before.before.before.before.before.before.before.before.before.before.before.before.before.before) c.if-kind-eq-FRAME_DURATION.false _ c.skip-past.ensures (c.if-not-past.false)
 
 pub read_spec : {M : Type 1} → statement M
 read_spec =

@@ -7,23 +7,21 @@ use Rattle.bpg_sei.proofs.StepLaws.{Skipping, skipping, skip-none, skip-on, skip
 use Rattle.bpg_sei.proofs.message.skip.Statement.{statement}
 use Rattle.bpg_sei.proofs.message.skip.Tie as tie
 
-abbrev invariant-loop : tie.invariant-loop
+abbrev invariant-loop : tie.invariant-loop-left
 invariant-loop unit cursor count left₀ at₀ left at = Skipping unit cursor at count left
 
-abbrev decreases-loop : tie.decreases-loop
+abbrev decreases-loop : tie.decreases-loop-left
 decreases-loop unit cursor count left₀ at₀ left at = left
 
-returns : tie.Need-returns invariant-loop decreases-loop
-returns c = let n = c.before.before in skip-none n.before.before.loop.invariant _ n.next.ensures n.before.loop-test.true (not-true _ c.if1.true) _ refl
+returns : tie.Need-returns-then-not-step invariant-loop decreases-loop
+returns c = skip-none c.loop-left.invariant _ c.next-step.ensures c.loop-left-test.true (c.if-not-step.true) _ refl
 
-loop-again : tie.Need-loop-preserved invariant-loop decreases-loop
+loop-again : tie.Need-loop-left-preserved invariant-loop decreases-loop
 loop-again c =
-    let e = c.before in
-    let n = e.before.before in
-    skip-on n.before.before.loop.invariant _ n.next.ensures n.before.loop-test.true (not-false _ e.if1.false)
+    skip-on c.loop-left.invariant _ c.next-step.ensures c.loop-left-test.true (c.if-not-step.false)
 
-pub skip-spec : {M : Type 1} → statement M
-skip-spec =
+pub skip_spec : {M : Type 1} → statement M
+skip_spec =
     tie.close
     (tie.spec
     invariant-loop
@@ -34,4 +32,4 @@ skip-spec =
     (λ c. omega arith)
     (λ c. omega arith)
     loop-again
-    (λ c. skip-found c.before.loop.invariant c.loop-test.false))
+    (λ c. skip-found c.loop-left.invariant c.loop-left-test.false))

@@ -12,32 +12,28 @@ use Rattle.bpg_sei.proofs.AnswerLaws.{Hearing, hearing, all-cut, all-heard, more
 use Rattle.bpg_sei.proofs.messages.read.Statement.{statement}
 use Rattle.bpg_sei.proofs.messages.read.Tie as tie
 
-abbrev invariant-loop : tie.invariant-loop
+abbrev invariant-loop : tie.invariant-loop-sei
 invariant-loop unit sei₀ cursor₀ sei cursor = Hearing unit (durations_in (content_at unit 2 0)) cursor sei
 
-abbrev decreases-loop : tie.decreases-loop
+abbrev decreases-loop : tie.decreases-loop-sei
 decreases-loop unit sei₀ cursor₀ sei cursor = length unit - cursor.at.0
 
-onward : (c : tie.Else1 invariant-loop decreases-loop)
-    → let n = c.before.before in Onward n.before.before.before.args.unit.now n.before.loop.cursor n.read.result.next
-onward c = (c.before.before.read.ensures.found (not-false _ c.if1.false)).1
+onward : (c : tie.Else-not-message invariant-loop decreases-loop)
+    → Onward c.args.unit.now c.loop-sei.cursor c.read-message.result.next
+onward c = (c.read-message.ensures.found (c.if-not-message.false)).1
 
-returns : tie.Need-returns invariant-loop decreases-loop
-returns c = let n = c.before.before in all-cut n.before.loop.invariant _ n.read.ensures (not-true _ c.if1.true)
+returns : tie.Need-returns-then-not-message invariant-loop decreases-loop
+returns c = all-cut c.loop-sei.invariant _ c.read-message.ensures (c.if-not-message.true)
 
-returns-2 : tie.Need-returns-2 invariant-loop decreases-loop
+returns-2 : tie.Need-returns-then-ends_here invariant-loop decreases-loop
 returns-2 c =
-    let h = c.before.before.before in
-    let n = h.before.before.before in
-    all-heard n.before.loop.invariant _ n.read.ensures (not-false _ h.before.if1.false) _ h.hear.ensures
-    (sym c.before.ends-here.ensures ∙ c.if2.true)
+    all-heard c.loop-sei.invariant _ c.read-message.ensures (c.if-not-message.false) _ c.hear-sei.ensures
+    (sym c.ends_here.ensures ∙ c.if-ends_here.true)
 
-loop-again : tie.Need-loop-preserved invariant-loop decreases-loop
+loop-again : tie.Need-loop-sei-preserved invariant-loop decreases-loop
 loop-again c =
-    let h = c.before.before.before in
-    let n = h.before.before.before in
-    more-heard n.before.loop.invariant _ n.read.ensures (not-false _ h.before.if1.false) _ h.hear.ensures
-    (sym c.before.ends-here.ensures ∙ c.if2.false)
+    more-heard c.loop-sei.invariant _ c.read-message.ensures (c.if-not-message.false) _ c.hear-sei.ensures
+    (sym c.ends_here.ensures ∙ c.if-ends_here.false)
 
 pub read_spec : {M : Type 1} → statement M
 read_spec =

@@ -10,30 +10,26 @@ use Rattle.bpg_sei.proofs.StepLaws.{Summing, summing, sum-none, sum-on, sum-foun
 use Rattle.bpg_sei.proofs.sum.read.Statement.{statement}
 use Rattle.bpg_sei.proofs.sum.read.Tie as tie
 
-abbrev invariant-loop : tie.invariant-loop
+abbrev invariant-loop : tie.invariant-loop-step
 invariant-loop unit cursor value₀ at₀ value at = (value ≤ 2 ^ 63) × Summing unit cursor at value
 
-abbrev decreases-loop : tie.decreases-loop
+abbrev decreases-loop : tie.decreases-loop-step
 decreases-loop unit cursor value₀ at₀ value at = length unit - at.at.0
 
-returns : tie.Need-returns invariant-loop decreases-loop
-returns c = let n = c.before.before in sum-none n.before.loop.invariant.1 _ n.next.ensures (not-true _ c.if1.true) _ refl
+returns : tie.Need-returns-then-not-step invariant-loop decreases-loop
+returns c = sum-none c.loop-step.invariant.1 _ c.next-step.ensures (c.if-not-step.true) _ refl
 
 -- a byte more is there
-onward : (c : tie.Else1 invariant-loop decreases-loop) → let n = c.before.before in Onward n.before.before.before.args.unit.now n.before.loop.at n.next.result.next
-onward c = (c.before.before.next.ensures.found (not-false _ c.if1.false)).1
+onward : (c : tie.Else-not-step invariant-loop decreases-loop) → Onward c.args.unit.now c.loop-step.at c.next-step.result.next
+onward c = (c.next-step.ensures.found (c.if-not-step.false)).1
 
-returns-2 : tie.Need-returns-2 invariant-loop decreases-loop
+returns-2 : tie.Need-returns-then-byte invariant-loop decreases-loop
 returns-2 c =
-    let b = c.before.before in
-    let n = b.before.before.before in
-    sum-found n.before.loop.invariant.1 _ n.next.ensures (not-false _ b.before.if1.false) _ b.least.ensures c.if2.true
+    sum-found c.loop-step.invariant.1 _ c.next-step.ensures (c.if-not-step.false) _ c.least-value.ensures c.if-byte.true
 
-loop-again : tie.Need-loop-preserved invariant-loop decreases-loop
+loop-again : tie.Need-loop-step-preserved invariant-loop decreases-loop
 loop-again c =
-    let b = c.before.before in
-    let n = b.before.before.before in
-    (omega arith, sum-on n.before.loop.invariant.1 _ n.next.ensures (not-false _ b.before.if1.false) _ b.least.ensures c.if2.false)
+    (omega arith, sum-on c.loop-step.invariant.1 _ c.next-step.ensures (c.if-not-step.false) _ c.least-value.ensures c.if-byte.false)
 
 pub read_spec : {M : Type 1} → statement M
 read_spec =

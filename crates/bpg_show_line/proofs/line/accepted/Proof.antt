@@ -11,43 +11,34 @@ use Rattle.bpg_show_line.proofs.line.accepted.Statement.{statement}
 use Rattle.bpg_show_line.proofs.line.accepted.Tie as tie
 
 -- the record, seen from the last of the three choices
-abbrev given : tie.After-append-animation → Record
-given c = c.before.before.before.before.before.before.before.before.before.before.before.before.before.before.before.before.before.before.before.args.«record»
+abbrev given : tie.After-append_animation-line → Record
+given c = c.args.«record»
 
-cast-append-labelled-6 : tie.Need-overflow-cast-append-labelled-6
-cast-append-labelled-6 c = record { fits = omega (arith, (printable (given c.before.before) c.struct-known6.given).count) }
+cast-append-labelled-6 : tie.Need-overflow_cast-record-6
+cast-append-labelled-6 c = record { fits = omega (arith, (printable (given c.before.before.before) c.struct_known-6-1.given).count) }
 
-cast-append-labelled-7 : tie.Need-overflow-cast-append-labelled-7
-cast-append-labelled-7 c = record { fits = omega (arith, (printable (given c.before.before.before.before.before) c.struct-known7.given).size) }
+cast-append-labelled-7 : tie.Need-overflow_cast-record-7
+cast-append-labelled-7 c = record { fits = omega (arith, (printable (given c.before.before.before.before.before.before.before) c.struct_known-7-1.given).size) }
 
 returns : tie.Need-returns
 unfolding ascii
 returns c =
-    let p7 = c.before.before in
-    let p6 = p7.before.before.before in
-    let animation = p6.before.before.before in
-    let p5 = animation.before.before.before in
-    let p4 = p5.before.before.before in
-    let p3 = p4.before.before.before in
-    let p2 = p3.before.before.before in
-    let p1 = p2.before.before.before in
-    let none = p1.before.before.before in
-    let r = given animation in
-    let g0 = gathered_none none.empty.ensures in
-    let g1 = gathered-labelled (ascii "size ") (decimal r.picture_width) g0 p1.append-labelled.ensures in
-    let g2 = gathered-labelled (ascii "x") (decimal r.picture_height) g1 p2.append-labelled2.ensures in
-    let g3 = gathered-labelled (ascii " format ") (decimal r.pixel_format) g2 p3.append-labelled3.ensures in
-    let g4 = gathered-labelled (ascii " depth ") (decimal (r.bit_depth_minus_8 + 8)) g3 p4.append-labelled4.ensures in
-    let g5 = gathered-labelled (ascii " space ") (decimal r.color_space) g4 p5.append-labelled5.ensures in
-    let g6 = gathered-text (alpha_text r.alpha1_flag r.alpha2_flag) g5 animation.before.before.append-alpha.ensures in
-    let g7 = gathered-text (range_text r.limited_range_flag) g6 animation.before.append-range.ensures in
-    let g8 = gathered-text (animation_text r.animation_flag) g7 animation.append-animation.ensures in
-    let g9 = gathered-labelled (ascii " ext ") (decimal r.entry_count) g8 p6.append-labelled6.ensures in
-    let g10 = gathered-labelled (ascii " data ") (decimal r.«data».length) g9 p7.append-labelled7.ensures in
-    (gathered-text (ascii "\n") g10 c.append.ensures).holds (length-accepted r (printable r p1.before.struct_known.given))
+    let r = given c.before.before.before.before.before.before.before.before.before.before.before in
+    let g0 = gathered_none c.empty-line.ensures in
+    let g1 = gathered-labelled (ascii "size ") (decimal r.picture_width) g0 c.append_labelled-line.ensures in
+    let g2 = gathered-labelled (ascii "x") (decimal r.picture_height) g1 c.append_labelled-line-2.ensures in
+    let g3 = gathered-labelled (ascii " format ") (decimal r.pixel_format) g2 c.append_labelled-line-3.ensures in
+    let g4 = gathered-labelled (ascii " depth ") (decimal (r.bit_depth_minus_8 + 8)) g3 c.append_labelled-line-4.ensures in
+    let g5 = gathered-labelled (ascii " space ") (decimal r.color_space) g4 c.append_labelled-line-5.ensures in
+    let g6 = gathered-text (alpha_text r.alpha1_flag r.alpha2_flag) g5 c.append_alpha-line.ensures in
+    let g7 = gathered-text (range_text r.limited_range_flag) g6 c.append_range-line.ensures in
+    let g8 = gathered-text (animation_text r.animation_flag) g7 c.append_animation-line.ensures in
+    let g9 = gathered-labelled (ascii " ext ") (decimal r.entry_count) g8 c.append_labelled-line-6.ensures in
+    let g10 = gathered-labelled (ascii " data ") (decimal r.«data».length) g9 c.append_labelled-line-7.ensures in
+    (gathered-text (ascii "\n") g10 c.append.ensures).holds (length-accepted r (printable r c.struct_known-1.given))
 
-pub accepted-spec : {M : Type 1} → statement M
-accepted-spec =
+pub accepted_spec : {M : Type 1} → statement M
+accepted_spec =
     tie.close
     (tie.spec
     (λ c κs. search rules)

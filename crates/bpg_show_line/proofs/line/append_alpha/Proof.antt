@@ -7,24 +7,24 @@ use Rattle.bpg_show_line.specs.LineBuffer.{appended}
 use Rattle.bpg_show_line.proofs.line.append_alpha.Statement.{statement}
 use Rattle.bpg_show_line.proofs.line.append_alpha.Tie as tie
 
-returns : tie.Need-returns
+returns : tie.Need-returns-then-alpha2
 unfolding ascii
-returns c = c.append.ensures ∙ ap (appended _) (sym (ap₂ alpha_text c.before.before.before.if1.true c.before.before.if2.true))
+returns c = c.append.ensures ∙ ap (appended _) (sym (ap₂ alpha_text c.if-alpha1.true c.if-alpha2.true))
 
-returns-2 : tie.Need-returns-2
+returns-2 : tie.Need-returns-then-alpha1
 unfolding ascii
-returns-2 c = c.append2.ensures ∙ ap (appended _) (sym (ap₂ alpha_text c.before.before.before.if1.true c.before.before.if2.false))
+returns-2 c = c.append-then-alpha1.ensures ∙ ap (appended _) (sym (ap₂ alpha_text c.if-alpha1.true c.if-alpha2.false))
 
-returns-3 : tie.Need-returns-3
+returns-3 : tie.Need-returns-then-alpha2-2
 unfolding ascii
-returns-3 c = c.append3.ensures ∙ ap (appended _) (sym (ap₂ alpha_text c.before.before.before.if1.false c.before.before.if3.true))
+returns-3 c = c.append-then-alpha2-2.ensures ∙ ap (appended _) (sym (ap₂ alpha_text c.if-alpha1.false c.if-alpha2-2.true))
 
-returns-4 : tie.Need-returns-4
+returns-4 : tie.Need-returns
 unfolding ascii
-returns-4 c = c.append4.ensures ∙ ap (appended _) (sym (ap₂ alpha_text c.before.before.before.if1.false c.before.before.if3.false))
+returns-4 c = c.append-2.ensures ∙ ap (appended _) (sym (ap₂ alpha_text c.if-alpha1.false c.if-alpha2-2.false))
 
-pub append-alpha-spec : {M : Type 1} → statement M
-append-alpha-spec =
+pub append_alpha_spec : {M : Type 1} → statement M
+append_alpha_spec =
     tie.close
     (tie.spec
     (λ c. search rules)

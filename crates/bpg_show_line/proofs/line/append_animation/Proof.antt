@@ -7,16 +7,16 @@ use Rattle.bpg_show_line.specs.LineBuffer.{appended}
 use Rattle.bpg_show_line.proofs.line.append_animation.Statement.{statement}
 use Rattle.bpg_show_line.proofs.line.append_animation.Tie as tie
 
-returns : tie.Need-returns
+returns : tie.Need-returns-then-animated
 unfolding ascii
-returns c = c.append.ensures ∙ ap (appended _) (sym (ap animation_text c.before.before.if1.true))
+returns c = c.append.ensures ∙ ap (appended _) (sym (ap animation_text c.if-animated.true))
 
-returns-2 : tie.Need-returns-2
+returns-2 : tie.Need-returns
 unfolding ascii
-returns-2 c = c.append2.ensures ∙ ap (appended _) (sym (ap animation_text c.before.before.if1.false))
+returns-2 c = c.append-2.ensures ∙ ap (appended _) (sym (ap animation_text c.if-animated.false))
 
-pub append-animation-spec : {M : Type 1} → statement M
-append-animation-spec =
+pub append_animation_spec : {M : Type 1} → statement M
+append_animation_spec =
     tie.close
     (tie.spec
     (λ c. search rules)

@@ -6,24 +6,19 @@ use Rattle.bpg_show_line.proofs.LineLaws.{line-accepted, line_refused, printable
 use Rattle.bpg_show_line.proofs.line.write.Statement.{statement}
 use Rattle.bpg_show_line.proofs.line.write.Tie as tie
 
-returns : tie.Need-returns
+returns : tie.Need-returns-then-reading-ne0
 returns c =
-    let w = c.before.before in
-    let branch = w.before.before in
-    rw (line_refused branch.before.before.before.args.reading branch.if1.true) w.write-refused.ensures
+    rw (line_refused c.args.reading c.if-reading-ne0.true) c.write_refused.ensures
 
 write-requires : tie.Need-write-requires
 write-requires c κs =
-    let known = c.before.before.before.before in
-    rw c.before.accepted.ensures (length-accepted known.before.before.args.reading.«record» (printable _ known.struct_known.given.1.1.1.1.0))
+    rw c.accepted.ensures (length-accepted c.args.reading.«record» (printable _ c.struct_known-1.given.1.1.1.1.0))
 
-returns-2 : tie.Need-returns-2
+returns-2 : tie.Need-returns
 returns-2 c =
-    let w = c.before.before in
-    let branch = w.before.before.before.before in
-    let a = branch.before.before.before.args in
-    rw (line-accepted a.reading branch.if1.false)
-    (writes a.out.now _ _ _ (accepted_line a.reading.«record») w.before.before.accepted.ensures w.write.ensures)
+    let a = c.args in
+    rw (line-accepted a.reading c.if-reading-ne0.false)
+    (writes a.out.now _ _ _ (accepted_line a.reading.«record») c.accepted.ensures c.write.ensures)
 
 pub write_spec : {M : Type 1} → statement M
 write_spec =

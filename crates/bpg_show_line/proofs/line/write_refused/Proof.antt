@@ -7,13 +7,11 @@ use Rattle.bpg_show_line.proofs.line.write_refused.Statement.{statement}
 use Rattle.bpg_show_line.proofs.line.write_refused.Tie as tie
 
 write-requires : tie.Need-write-requires
-write-requires c κs = let st = c.before.before.before in
-    rw c.before.refused.ensures (length-refused _ _ st.ranges.status.fits st.ranges.offset.fits)
+write-requires c κs = rw c.refused.ensures (length-refused _ _ c.ranges.status.fits c.ranges.offset.fits)
 
 returns : tie.Need-returns
-returns c = let w = c.before.before in
-    let a = w.before.before.before.before.args in
-    writes a.out.now _ _ _ (refused_line a.status a.offset) w.before.before.refused.ensures w.write.ensures
+returns c = let a = c.args in
+    writes a.out.now _ _ _ (refused_line a.status a.offset) c.refused.ensures c.write.ensures
 
-pub write-refused-spec : {M : Type 1} → statement M
-write-refused-spec = tie.close (tie.spec (λ c κs. search rules) write-requires (λ c. search rules) returns)
+pub write_refused_spec : {M : Type 1} → statement M
+write_refused_spec = tie.close (tie.spec (λ c κs. search rules) write-requires (λ c. search rules) returns)

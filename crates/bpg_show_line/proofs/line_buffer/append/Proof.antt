@@ -10,8 +10,8 @@ use Rattle.bpg_show_line.proofs.line_buffer.append.Tie as tie
 
 returns : tie.Need-returns
 unfolding appended
-returns c = let e = c.before.write.ensures in
+returns c = let e = c.write-end.ensures in
     ap₂ {C = LineBuffer} (λ (b : List ℕ) (n : ℕ). record { bytes = b; len = n }) e.0 e.1
 
-pub append-spec : {M : Type 1} → statement M
-append-spec = tie.close (tie.spec (λ c. search rules) (λ c κs. search rules) returns)
+pub append_spec : {M : Type 1} → statement M
+append_spec = tie.close (tie.spec (λ c. search rules) (λ c κs. search rules) returns)

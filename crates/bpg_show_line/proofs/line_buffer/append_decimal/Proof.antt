@@ -13,11 +13,11 @@ use Rattle.bpg_show_line.proofs.DecimalLaws.{leading, leading-zero, leading-more
 use Rattle.bpg_show_line.proofs.line_buffer.append_decimal.Statement.{statement}
 use Rattle.bpg_show_line.proofs.line_buffer.append_decimal.Tie as tie
 
-abbrev invariant-loop : tie.invariant-loop
+abbrev invariant-loop : tie.invariant-loop-left
 invariant-loop line v digits₀ next₀ left₀ digits next left =
     (leading left ++ drop next digits ≡ decimal v) × (length digits ≡ 20) × (length (leading left) ≤ next) × (next < 20)
 
-abbrev decreases-loop : tie.decreases-loop
+abbrev decreases-loop : tie.decreases-loop-left
 decreases-loop line v digits₀ next₀ left₀ digits next left = left
 
 -- a store, and what stands from there on
@@ -37,24 +37,24 @@ done l next left v h n e =
     let z : left ≡ 0 = omega arith in
     take_all (20 - next) (drop next l) (rw length-drop (omega arith)) ∙ rw (z, leading-zero) at e
 
-loop-holds : tie.Need-loop-init invariant-loop decreases-loop
+loop-holds : tie.Need-loop-left-init invariant-loop decreases-loop
 loop-holds c = (sym (decimal-leading c.args.v), refl, leading-most 19 (c.args.v / 10) (omega arith), omega arith)
 
-sub-next : tie.Need-overflow-sub-next invariant-loop decreases-loop
-sub-next c = omega (arith, length-leading c.before.loop.left c.loop-test.true)
+sub-next : tie.Need-overflow_sub-next invariant-loop decreases-loop
+sub-next c = omega (arith, length-leading c.loop-left.left c.loop-left-test.true)
 
-loop-again : tie.Need-loop-preserved invariant-loop decreases-loop
+loop-again : tie.Need-loop-left-preserved invariant-loop decreases-loop
 loop-again c =
-    let l = c.before.loop in
-    let n = length-leading l.left c.loop-test.true in
-    (turn l.digits l.next l.left c.loop-test.true (omega arith) (omega arith) ∙ l.invariant.0, length-set l.digits _ _ ∙ l.invariant.1, omega arith, omega arith)
+    let l = c.loop-left in
+    let n = length-leading l.left c.loop-left-test.true in
+    (turn l.digits l.next l.left c.loop-left-test.true (omega arith) (omega arith) ∙ l.invariant.0, length-set l.digits _ _ ∙ l.invariant.1, omega arith, omega arith)
 
 returns : tie.Need-returns invariant-loop decreases-loop
-returns c = let l = c.before.before.before.before.loop in
-    c.append.ensures ∙ ap (appended _) (done l.digits l.next l.left _ c.before.before.before.loop-test.false l.invariant.1 l.invariant.0)
+returns c = let l = c.loop-left in
+    c.append.ensures ∙ ap (appended _) (done l.digits l.next l.left _ c.loop-left-test.false l.invariant.1 l.invariant.0)
 
-pub append-decimal-spec : {M : Type 1} → statement M
-append-decimal-spec =
+pub append_decimal_spec : {M : Type 1} → statement M
+append_decimal_spec =
     tie.close
     (tie.spec
     invariant-loop

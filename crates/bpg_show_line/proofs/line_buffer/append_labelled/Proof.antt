@@ -8,7 +8,7 @@ use Rattle.bpg_show_line.proofs.line_buffer.append_labelled.Statement.{statement
 use Rattle.bpg_show_line.proofs.line_buffer.append_labelled.Tie as tie
 
 returns : tie.Need-returns
-returns c = c.append-decimal.ensures ∙ ap (λ (b : LineBuffer). appended b (decimal c.before.before.before.args.v)) c.before.append.ensures
+returns c = c.append_decimal.ensures ∙ ap (λ (b : LineBuffer). appended b (decimal c.args.v)) c.append.ensures
 
-pub append-labelled-spec : {M : Type 1} → statement M
-append-labelled-spec = tie.close (tie.spec (λ c κs. search rules) (λ c κs. search rules) returns)
+pub append_labelled_spec : {M : Type 1} → statement M
+append_labelled_spec = tie.close (tie.spec (λ c κs. search rules) (λ c κs. search rules) returns)

@@ -12,10 +12,10 @@ use Rattle.bpg_show_line.proofs.line_buffer.write.Tie as tie
 size : (c : tie.Start) → length c.args.line.bytes ≡ line_size
 size c = sym (length-map c.args.line.bytes (λ v. v)) ∙ c.well-formed.0.1.1.0.1.0.1
 
-array-share-prefix-bytes : tie.Need-array-share-prefix-bytes
+array-share-prefix-bytes : tie.Need-slice_bounds-bytes-end
 array-share-prefix-bytes c = omega (arith, size c.before.before.before)
 
-slice-aggregate-write : tie.Need-slice-aggregate-write
+slice-aggregate-write : tie.Need-slice_bounds-write-end
 slice-aggregate-write c = sym (length-take-le _ _ (omega (arith, size c.before.before.before.before)))
 
 pub write_spec : {M : Type 1} → statement M

@@ -21,27 +21,24 @@ two c = search headers-count
 returns : tie.Need-returns
 unfolding consistent content_of
 returns c =
-    let zero = c.before.before in
-    let same = zero.before.before in
-    let none = same.before.before in
-    let start = none.before.before.before in
-    let r = start.args.t1 in
+    let start = c.before.before.before.before.before.before.before.before.before in
+    let r = c.args.t1 in
     λ source.
     rw (
       none-used source r.entries r.entry_count (entries-length start),
-      same.before.has-control.ensures source,
-      same.same-loop.ensures,
-      none.none.ensures,
-      zero.before.has-alpha.ensures,
-      zero.header-zero.ensures,
-      c.before.absent-zero.ensures,
-      c.absent-zero2.ensures,
+      c.has_control.ensures source,
+      c.same_loop.ensures,
+      c.none-none.ensures,
+      c.has_alpha.ensures,
+      c.header_zero.ensures,
+      c.absent_zero.ensures,
+      c.absent_zero-2.ensures,
       header_at _ r.headers 0 (two start) (omega arith),
       header_at _ r.headers 1 (two start) (omega arith),
     )
 
-pub all-spec : {M : Type 1} → statement M
-all-spec =
+pub all_spec : {M : Type 1} → statement M
+all_spec =
     tie.close
     (tie.spec
     (λ c. search rules) (λ c. search rules) (λ c κs. search rules) (λ c κs. search rules)

@@ -17,17 +17,16 @@ use Rattle.bpg_write_check.proofs.content.alpha_status.Tie as tie
 two : (c : tie.Start) → length c.args.t1.headers ≡ 2
 two c = search headers-count
 
-returns : tie.Need-returns
-returns c = no-alpha _ _ (sym c.before.has-alpha.ensures ∙ not-true _ c.if1.true)
+returns : tie.Need-returns-then-not-has_alpha
+returns c = no-alpha _ _ (sym c.has_alpha.ensures ∙ c.if-not-has_alpha.true)
 
-returns-2 : tie.Need-returns-2
+returns-2 : tie.Need-returns
 returns-2 c =
-    let e = c.before.before in
-    alpha-decides _ _ _ (sym e.before.has-alpha.ensures ∙ not-false _ e.if1.false)
-    (c.status.ensures ∙ ap (λ (h : Header). status_of (check_header e.before.before.args.depth h)) (header_at _ e.before.before.args.t1.headers 0 (two e.before.before) (omega arith)))
+    alpha-decides _ _ _ (sym c.has_alpha.ensures ∙ c.if-not-has_alpha.false)
+    (c.status.ensures ∙ ap (λ (h : Header). status_of (check_header c.args.depth h)) (header_at _ c.args.t1.headers 0 (two c.before.before.before.before) (omega arith)))
 
-pub alpha-status-spec : {M : Type 1} → statement M
-alpha-status-spec =
+pub alpha_status_spec : {M : Type 1} → statement M
+alpha_status_spec =
     tie.close
     (tie.spec
     (λ c κs. search rules) returns (λ c. search rules) (λ c κs. search rules) returns-2)

@@ -13,27 +13,27 @@ use Rattle.bpg_write_check.proofs.content.data_status.Statement.{statement}
 use Rattle.bpg_write_check.proofs.content.data_status.Tie as tie
 
 -- the data was judged
-module _ (c : tie.After-data-allowed) where
+module _ (c : tie.After-data_allowed) where
   abbrev source : List ℕ
-  source = c.before.before.before.before.before.args.source.now
+  source = c.args.source.now
 
   abbrev range : Range
-  range = c.before.before.before.before.before.args.bytes
+  range = c.args.bytes
 
   abbrev bytes : List ℕ
   bytes = bytes_in source range
 
-  answer : data_allowed bytes ≡ c.data-allowed.result
-  answer = sym (c.data-allowed.ensures ∙ ap data_allowed (range-bytes source range))
+  answer : data_allowed bytes ≡ c.data_allowed.result
+  answer = sym (c.data_allowed.ensures ∙ ap data_allowed (range-bytes source range))
 
-returns : tie.Need-returns
-returns c = data-refused (bytes c.before) (answer c.before ∙ not-true _ c.if1.true)
+returns : tie.Need-returns-then-not-data_allowed
+returns c = data-refused (bytes c.before) (answer c.before ∙ c.if-not-data_allowed.true)
 
-returns-2 : tie.Need-returns-2
-returns-2 c = data-passes (bytes c.before) (answer c.before ∙ not-false _ c.if1.false)
+returns-2 : tie.Need-returns
+returns-2 c = data-passes (bytes c.before) (answer c.before ∙ c.if-not-data_allowed.false)
 
-pub data-status-spec : {M : Type 1} → statement M
-data-status-spec =
+pub data_status_spec : {M : Type 1} → statement M
+data_status_spec =
     tie.close
     (tie.spec
     (λ c. search rules) (λ c. search rules) (λ c. search rules) (λ c. search rules) (λ c. search rules)

@@ -21,29 +21,25 @@ two : (c : tie.Start) → length c.args.t1.headers ≡ 2
 two c = search headers-count
 
 -- the test of the animation flag is refusal 14's
-tested : (c : tie.After-has-control) (source : List ℕ) → controlled c.before.args.t1 source ≡ (not c.before.args.t1.animation_flag || c.has-control.result)
-tested c source = sym (ap (λ (b : Bool). not c.before.args.t1.animation_flag || b) (c.has-control.ensures source))
+tested : (c : tie.After-has_control) (source : List ℕ) → controlled c.args.t1 source ≡ (not c.args.t1.animation_flag || c.has_control.result)
+tested c source = sym (ap (λ (b : Bool). not c.args.t1.animation_flag || b) (c.has_control.ensures source))
 
-returns : tie.Need-returns
-returns c = λ source. control-missing _ source (tested c.before source ∙ not-true _ c.if1.true)
+returns : tie.Need-returns-then-not-controlled
+returns c = λ source. control-missing _ source (tested c.before source ∙ c.if-not-controlled.true)
 
-returns-2 : tie.Need-returns-2
+returns-2 : tie.Need-returns-then-number-ne0
 returns-2 c =
-    let e = c.before.before in
-    λ source. alpha-stops _ source (tested e.before source ∙ not-false _ e.if1.false) _ c.before.alpha-status.ensures c.if2.true
+    λ source. alpha-stops _ source (tested c.before.before.before source ∙ c.if-not-controlled.false) _ c.alpha_status-number.ensures c.if-number-ne0.true
 
-returns-3 : tie.Need-returns-3
+returns-3 : tie.Need-returns
 returns-3 c =
-    let a = c.before.before in
-    let e = a.before.before in
-    let s = e.before.before in
     λ source.
-    color-decides _ source (tested e.before source ∙ not-false _ e.if1.false) _ a.before.alpha-status.ensures _ a.if2.false
+    color-decides _ source (tested c.before.before.before.before.before source ∙ c.if-not-controlled.false) _ c.alpha_status-number.ensures _ c.if-number-ne0.false
     (c.status.ensures
-    ∙ ap (λ (h : Header). status_of (check_header (depth s.args.t1 source) h)) (header_at _ s.args.t1.headers 1 (two s) (omega arith)))
+    ∙ ap (λ (h : Header). status_of (check_header (depth c.args.t1 source) h)) (header_at _ c.args.t1.headers 1 (two c.before.before.before.before.before.before) (omega arith)))
 
-pub headers-status-spec : {M : Type 1} → statement M
-headers-status-spec =
+pub headers_status_spec : {M : Type 1} → statement M
+headers_status_spec =
     tie.close
     (tie.spec
     (λ c κs. search rules) returns (λ c. search rules) (λ c κs. search rules) returns-2

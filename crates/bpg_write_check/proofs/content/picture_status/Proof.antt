@@ -9,50 +9,47 @@ use borrow.Author.Rules.{rules}
 use Rattle.bpg_write_check.proofs.content.picture_status.Statement.{statement}
 use Rattle.bpg_write_check.proofs.content.picture_status.Tie as tie
 
-abbrev depth : tie.Else3 → tie.Else2
+abbrev depth : tie.Else-not-color_space_allowed → tie.Else-record-gt6
 depth c = c.before.before
 
-format : (c : tie.Else2) → c.before.before.before.before.args.«record».pixel_format ≤ 5
-format c = c.before.before.if1.false
+format : (c : tie.Else-record-gt6) → c.args.«record».pixel_format ≤ 5
+format c = c.if-record-gt5.false
 
 -- the colour space is allowed
-module _ (c : tie.Else3) where
+module _ (c : tie.Else-not-color_space_allowed) where
   abbrev rec : Record
-  rec = (depth c).before.before.before.before.args.«record»
+  rec = (depth c).args.«record»
 
   allowed : space_allowed rec.pixel_format rec.color_space ≡ true
-  allowed = sym c.before.color-space-allowed.ensures ∙ not-false _ c.if3.false
+  allowed = sym c.color_space_allowed.ensures ∙ c.if-not-color_space_allowed.false
 
-returns : tie.Need-returns
+returns : tie.Need-returns-then-record-gt5
 returns c = λ source. search format-large
 
-returns-2 : tie.Need-returns-2
+returns-2 : tie.Need-returns-then-record-gt6
 returns-2 c = λ source. search depth-large
 
-returns-3 : tie.Need-returns-3
+returns-3 : tie.Need-returns-then-not-color_space_allowed
 returns-3 c =
-    let d = c.before.before in
-    λ source. space-broken _ _ d.before.before.if1.false d.if2.false (sym c.before.color-space-allowed.ensures ∙ not-true _ c.if3.true)
+    λ source. space-broken _ _ c.if-record-gt5.false c.if-record-gt6.false (sym c.color_space_allowed.ensures ∙ c.if-not-color_space_allowed.true)
 
-returns-4 : tie.Need-returns-4
+returns-4 : tie.Need-returns-then-record-eq0
 returns-4 c =
     let s = c.before.before in
-    λ source. no-width _ _ (format (depth s)) (depth s).if2.false (allowed s) c.if4.true
+    λ source. no-width _ _ (format (depth s)) (depth s).if-record-gt6.false (allowed s) c.if-record-eq0.true
 
-returns-5 : tie.Need-returns-5
+returns-5 : tie.Need-returns-then-record-eq0-2
 returns-5 c =
-    let w = c.before.before in
-    let s = w.before.before in
-    λ source. no-height _ _ (format (depth s)) (depth s).if2.false (allowed s) w.if4.false c.if5.true
+    let s = c.before.before.before.before in
+    λ source. no-height _ _ (format (depth s)) (depth s).if-record-gt6.false (allowed s) c.if-record-eq0.false c.if-record-eq0-2.true
 
-returns-6 : tie.Need-returns-6
+returns-6 : tie.Need-returns
 returns-6 c =
-    let w = c.before.before in
-    let s = w.before.before in
-    λ source. picture-passes _ _ (format (depth s)) (depth s).if2.false (allowed s) w.if4.false c.if5.false
+    let s = c.before.before.before.before in
+    λ source. picture-passes _ _ (format (depth s)) (depth s).if-record-gt6.false (allowed s) c.if-record-eq0.false c.if-record-eq0-2.false
 
-pub picture-status-spec : {M : Type 1} → statement M
-picture-status-spec =
+pub picture_status_spec : {M : Type 1} → statement M
+picture_status_spec =
     tie.close
     (tie.spec
     returns returns-2 (λ c κs. search rules) returns-3 returns-4 returns-5 returns-6)

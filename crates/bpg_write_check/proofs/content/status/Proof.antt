@@ -6,55 +6,41 @@ use borrow.Author.Rules.{rules}
 use Rattle.bpg_write_check.proofs.content.status.Statement.{statement}
 use Rattle.bpg_write_check.proofs.content.status.Tie as tie
 
-returns : tie.Need-returns
+returns : tie.Need-returns-then-before-ne0
 returns c =
-    let p = c.before in
-    let source = p.before.before.args.source.now in
-    picture-stops _ source _ (p.picture-status.ensures source) c.if1.true
+    let source = c.args.source.now in
+    picture-stops _ source _ (c.picture_status-before.ensures source) c.if-before-ne0.true
 
-entries-status-requires : tie.Need-status-requires
-entries-status-requires c κs = let s = c.before.before.before in (s.requires.0, payloads-held s.args.source.now s.args.«record» s.requires.1)
+entries-status-requires : tie.Need-status-number-requires
+entries-status-requires c κs = (c.requires.0, payloads-held c.args.source.now c.args.«record» c.requires.1)
 
-returns-2 : tie.Need-returns-2
+returns-2 : tie.Need-returns-then-number-ne0
 returns-2 c =
-    let e = c.before.before in
-    let p = e.before in
-    let source = p.before.before.args.source.now in
-    entries-stop _ source _ (p.picture-status.ensures source) e.if1.false _ c.before.status.ensures c.if2.true
+    let source = c.args.source.now in
+    entries-stop _ source _ (c.picture_status-before.ensures source) c.if-before-ne0.false _ c.status-number.ensures c.if-number-ne0.true
 
-headers-status-requires : tie.Need-headers-status-requires
+headers-status-requires : tie.Need-headers_status-after-requires
 headers-status-requires c κs =
-    let e = c.before.before in
-    let p = e.before in
-    let s = p.before.before in
-    depth-fits _ s.args.source.now (sym (p.picture-status.ensures s.args.source.now) ∙ e.if1.false)
+    depth-fits _ c.args.source.now (sym (c.picture_status-before.ensures c.args.source.now) ∙ c.if-before-ne0.false)
 
-returns-3 : tie.Need-returns-3
+returns-3 : tie.Need-returns-then-after-ne0
 returns-3 c =
-    let t = c.before.before in
-    let e = t.before.before in
-    let p = e.before in
-    let source = p.before.before.args.source.now in
-    headers-stop _ source _ (p.picture-status.ensures source) e.if1.false _ t.before.status.ensures t.if2.false _
-    (c.before.headers-status.ensures source) c.if3.true
+    let source = c.args.source.now in
+    headers-stop _ source _ (c.picture_status-before.ensures source) c.if-before-ne0.false _ c.status-number.ensures c.if-number-ne0.false _
+    (c.headers_status-after.ensures source) c.if-after-ne0.true
 
-data-status-requires : tie.Need-data-status-requires
+data-status-requires : tie.Need-data_status-requires
 data-status-requires c κs =
-    let s = c.before.before.before.before.before.before.before.before in
-    data-held s.args.source.now s.args.«record» s.requires.1
+    data-held c.args.source.now c.args.«record» c.requires.1
 
-returns-4 : tie.Need-returns-4
+returns-4 : tie.Need-returns
 returns-4 c =
-    let h = c.before.before in
-    let t = h.before.before in
-    let e = t.before.before in
-    let p = e.before in
-    let source = p.before.before.args.source.now in
-    data-decides _ source _ (p.picture-status.ensures source) e.if1.false _ t.before.status.ensures t.if2.false _
-    (h.before.headers-status.ensures source) _ h.if3.false c.data-status.ensures
+    let source = c.args.source.now in
+    data-decides _ source _ (c.picture_status-before.ensures source) c.if-before-ne0.false _ c.status-number.ensures c.if-number-ne0.false _
+    (c.headers_status-after.ensures source) _ c.if-after-ne0.false c.data_status.ensures
 
-pub status-spec : {M : Type 1} → statement M
-status-spec =
+pub status_spec : {M : Type 1} → statement M
+status_spec =
     tie.close
     (tie.spec
     (λ c κs. search rules) returns entries-status-requires returns-2 headers-status-requires returns-3 data-status-requires returns-4)

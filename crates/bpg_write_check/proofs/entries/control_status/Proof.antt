@@ -13,31 +13,29 @@ use Rattle.bpg_write_check.proofs.entries.control_status.Statement.{statement}
 use Rattle.bpg_write_check.proofs.entries.control_status.Tie as tie
 
 -- the payload was read
-module _ (c : tie.After-read) where
+module _ (c : tie.After-read-animation) where
   abbrev source : List ℕ
-  source = c.before.before.before.before.before.args.source.now
+  source = c.args.source.now
 
   abbrev payload : Range
-  payload = c.before.before.before.before.before.args.payload
+  payload = c.args.payload
 
-  answer : c.read.result ≡ animation_answer (read_animation 0 (bytes_in source payload))
-  answer = c.read.ensures ∙ ap (λ (l : List ℕ). animation_answer (read_animation 0 l)) (range-bytes source payload)
+  answer : c.read-animation.result ≡ animation_answer (read_animation 0 (bytes_in source payload))
+  answer = c.read-animation.ensures ∙ ap (λ (l : List ℕ). animation_answer (read_animation 0 l)) (range-bytes source payload)
 
-returns : tie.Need-returns
-returns c = let r = c.before.before in payload-refused _ _ r.read.result (answer r) c.if1.true
+returns : tie.Need-returns-then-animation-ne0
+returns c = payload-refused _ _ c.read-animation.result (answer c.before.before) c.if-animation-ne0.true
 
-returns-2 : tie.Need-returns-2
+returns-2 : tie.Need-returns-then-not-same_loop
 returns-2 c =
-    let r = c.before.before.before.before in
-    loop-differs _ _ r.read.result (answer r) c.before.before.if1.false (sym c.before.same-loop.ensures ∙ not-true _ c.if2.true)
+    loop-differs _ _ c.read-animation.result (answer c.before.before.before.before) c.if-animation-ne0.false (sym c.same_loop.ensures ∙ c.if-not-same_loop.true)
 
-returns-3 : tie.Need-returns-3
+returns-3 : tie.Need-returns
 returns-3 c =
-    let r = c.before.before.before.before in
-    loop-same _ _ r.read.result (answer r) c.before.before.if1.false (sym c.before.same-loop.ensures ∙ not-false _ c.if2.false)
+    loop-same _ _ c.read-animation.result (answer c.before.before.before.before) c.if-animation-ne0.false (sym c.same_loop.ensures ∙ c.if-not-same_loop.false)
 
-pub control-status-spec : {M : Type 1} → statement M
-control-status-spec =
+pub control_status_spec : {M : Type 1} → statement M
+control_status_spec =
     tie.close
     (tie.spec
     (λ c. search rules) (λ c. search rules) (λ c. search rules) (λ c. search rules) (λ c. search rules)

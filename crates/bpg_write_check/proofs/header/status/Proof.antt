@@ -10,31 +10,29 @@ use Rattle.bpg_write_check.proofs.header.status.Statement.{statement}
 use Rattle.bpg_write_check.proofs.header.status.Tie as tie
 
 -- the fields can be coded
-coded : (c : tie.Else1) → fields_coded c.before.before.args.h ≡ true
-coded c = sym c.before.fields-coded.ensures ∙ not-false _ c.if1.false
+coded : (c : tie.Else-not-fields_coded) → fields_coded c.args.h ≡ true
+coded c = sym c.fields_coded.ensures ∙ c.if-not-fields_coded.false
 
 -- and no forbidden bit is set
-clear : (c : tie.Else2) → no_forbidden_bit c.before.before.before.before.args.h ≡ true
-clear c = sym c.before.no-forbidden-bit.ensures ∙ not-false _ c.if2.false
+clear : (c : tie.Else-not-no_forbidden_bit) → no_forbidden_bit c.args.h ≡ true
+clear c = sym c.no_forbidden_bit.ensures ∙ c.if-not-no_forbidden_bit.false
 
-returns : tie.Need-returns
-returns c = not-coded _ _ (sym c.before.fields-coded.ensures ∙ not-true _ c.if1.true)
+returns : tie.Need-returns-then-not-fields_coded
+returns c = not-coded _ _ (sym c.fields_coded.ensures ∙ c.if-not-fields_coded.true)
 
-returns-2 : tie.Need-returns-2
-returns-2 c = forbidden-bit _ _ (coded c.before.before) (sym c.before.no-forbidden-bit.ensures ∙ not-true _ c.if2.true)
+returns-2 : tie.Need-returns-then-not-no_forbidden_bit
+returns-2 c = forbidden-bit _ _ (coded c.before.before) (sym c.no_forbidden_bit.ensures ∙ c.if-not-no_forbidden_bit.true)
 
-returns-3 : tie.Need-returns-3
+returns-3 : tie.Need-returns-then-not-allowed
 returns-3 c =
-    let n = c.before.before in
-    not-allowed _ _ (coded n.before.before) (clear n) (sym c.before.allowed.ensures ∙ not-true _ c.if3.true)
+    not-allowed _ _ (coded c.before.before.before.before) (clear c.before.before) (sym c.allowed.ensures ∙ c.if-not-allowed.true)
 
-returns-4 : tie.Need-returns-4
+returns-4 : tie.Need-returns
 returns-4 c =
-    let n = c.before.before in
-    header-passes _ _ (coded n.before.before) (clear n) (sym c.before.allowed.ensures ∙ not-false _ c.if3.false)
+    header-passes _ _ (coded c.before.before.before.before) (clear c.before.before) (sym c.allowed.ensures ∙ c.if-not-allowed.false)
 
-pub status-spec : {M : Type 1} → statement M
-status-spec =
+pub status_spec : {M : Type 1} → statement M
+status_spec =
     tie.close
     (tie.spec
     (λ c κs. search rules) returns (λ c κs. search rules) returns-2 (λ c κs. search rules) returns-3

@@ -12,56 +12,50 @@ use Rattle.bpg_write_check.proofs.judge.record.Statement.{statement}
 use Rattle.bpg_write_check.proofs.judge.record.Tie as tie
 
 -- the entries are not too many
-module _ (c : tie.Else1) where
+module _ (c : tie.Else-record-gt-MAX_ENTRIES) where
   abbrev rec : Record
-  rec = c.before.before.before.args.«record»
+  rec = c.args.«record»
 
   abbrev source : List ℕ
-  source = c.before.before.before.args.source.now
+  source = c.args.source.now
 
 -- and the ranges lie in the source
-inside : (c : tie.Else2) → ranges_in_source (source c.before.before) (rec c.before.before) ≡ true
-inside c = sym c.before.all_in.ensures ∙ not-false _ c.if2.false
+inside : (c : tie.Else-not-all_in) → ranges_in_source (source c.before.before) (rec c.before.before) ≡ true
+inside c = sym c.all_in.ensures ∙ c.if-not-all_in.false
 
 -- and unused entries are zero
-unused : (c : tie.Else3) → unused_zero (rec c.before.before.before.before) ≡ true
-unused c = sym c.before.unused-zero.ensures ∙ not-false _ c.if3.false
+unused : (c : tie.Else-not-unused_zero) → unused_zero (rec c.before.before.before.before) ≡ true
+unused c = sym c.unused_zero.ensures ∙ c.if-not-unused_zero.false
 
-returns : tie.Need-returns
-returns c = too_many _ _ c.if1.true
+returns : tie.Need-returns-then-record-gt-MAX_ENTRIES
+returns c = too_many _ _ c.if-record-gt-MAX_ENTRIES.true
 
-returns-2 : tie.Need-returns-2
-returns-2 c = let f = c.before.before in range-outside (rec f) (source f) f.if1.false (sym c.before.all_in.ensures ∙ not-true _ c.if2.true)
+returns-2 : tie.Need-returns-then-not-all_in
+returns-2 c =
+    let f = c.before.before in
+    range-outside (rec f) (source f) c.if-record-gt-MAX_ENTRIES.false (sym c.all_in.ensures ∙ c.if-not-all_in.true)
 
-returns-3 : tie.Need-returns-3
+returns-3 : tie.Need-returns-then-not-unused_zero
 returns-3 c =
-    let i = c.before.before in
-    let f = i.before.before in
-    unused-set (rec f) (source f) f.if1.false (inside i) (sym c.before.unused-zero.ensures ∙ not-true _ c.if3.true)
+    let f = c.before.before.before.before in
+    unused-set (rec f) (source f) c.if-record-gt-MAX_ENTRIES.false (inside c.before.before) (sym c.unused_zero.ensures ∙ c.if-not-unused_zero.true)
 
-returns-4 : tie.Need-returns-4
+returns-4 : tie.Need-returns-then-not-all
 returns-4 c =
-    let u = c.before.before in
-    let i = u.before.before in
-    let f = i.before.before in
-    inconsistent (rec f) (source f) f.if1.false (inside i) (unused u) (sym (c.before.all.ensures (source f)) ∙ not-true _ c.if4.true)
+    let f = c.before.before.before.before.before.before in
+    inconsistent (rec f) (source f) c.if-record-gt-MAX_ENTRIES.false (inside c.before.before.before.before) (unused c.before.before) (sym (c.all.ensures (source f)) ∙ c.if-not-all.true)
 
 status-requires : tie.Need-status-requires
 status-requires c κs =
-    let i = c.before.before.before.before in
-    let f = i.before.before in
-    (f.if1.false, inside i)
+    (c.if-record-gt-MAX_ENTRIES.false, inside c.before.before.before.before)
 
-returns-5 : tie.Need-returns-5
+returns-5 : tie.Need-returns
 returns-5 c =
-    let a = c.before in
-    let u = a.before.before in
-    let i = u.before.before in
-    let f = i.before.before in
-    content-decides (rec f) (source f) f.if1.false (inside i) (unused u) _ (sym (a.before.all.ensures (source f)) ∙ not-false _ a.if4.false) c.status.ensures
+    let f = c.before.before.before.before.before.before.before in
+    content-decides (rec f) (source f) c.if-record-gt-MAX_ENTRIES.false (inside c.before.before.before.before.before) (unused c.before.before.before) _ (sym (c.all.ensures (source f)) ∙ c.if-not-all.false) c.status.ensures
 
-pub record-spec : {M : Type 1} → statement M
-record-spec =
+pub record_spec : {M : Type 1} → statement M
+record_spec =
     tie.close
     (tie.spec
     (λ c. search rules) returns (λ c κs. search rules) returns-2 (λ c κs. search rules) returns-3

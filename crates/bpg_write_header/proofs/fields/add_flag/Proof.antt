@@ -17,7 +17,7 @@ flag-bits true = refl
 flag-bits false = refl
 
 returns : tie.Need-returns
-returns c = added (c.append.ensures ∙ ap (appended c.before.args.b) (flag-bits c.before.args.flag))
+returns c = added (c.append.ensures ∙ ap (appended c.args.b) (flag-bits c.args.flag))
 
-pub add-flag-spec : {M : Type 1} → statement M
-add-flag-spec = tie.close (tie.spec (λ c. search rules) (λ c κs. search rules) returns)
+pub add_flag_spec : {M : Type 1} → statement M
+add_flag_spec = tie.close (tie.spec (λ c. search rules) (λ c κs. search rules) returns)

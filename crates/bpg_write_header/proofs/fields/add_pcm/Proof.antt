@@ -5,20 +5,19 @@ use Rattle.bpg_write_header.proofs.AddingLaws.{added, added_then, left_out, put_
 use Rattle.bpg_write_header.proofs.fields.add_pcm.Statement.{statement}
 use Rattle.bpg_write_header.proofs.fields.add_pcm.Tie as tie
 
-returns : tie.Need-returns
-returns c = left_out _ (not-true _ c.if1.true)
+returns : tie.Need-returns-then-not-h
+returns c = left_out _ (c.if-not-h.true)
 
-returns-2 : tie.Need-returns-2
+returns-2 : tie.Need-returns
 returns-2 c =
-    let luma = c.before.before.before.before.before in
-    put_in (not-false _ luma.before.before.if1.false)
-    (added_then (added luma.append.ensures)
-    (added_then (added c.before.before.before.append2.ensures)
-    (added_then (added c.before.before.append-exp-golomb.ensures)
-    (added_then (added c.before.append-exp-golomb2.ensures) c.add-flag.ensures))))
+    put_in (c.if-not-h.false)
+    (added_then (added c.append-luma.ensures)
+    (added_then (added c.append-chroma.ensures)
+    (added_then (added c.append_exp_golomb-least.ensures)
+    (added_then (added c.append_exp_golomb-diff.ensures) c.add_flag.ensures))))
 
-pub add-pcm-spec : {M : Type 1} → statement M
-add-pcm-spec =
+pub add_pcm_spec : {M : Type 1} → statement M
+add_pcm_spec =
     tie.close
     (tie.spec
     returns

@@ -6,13 +6,13 @@ use Rattle.bpg_write_header.proofs.fields.add_sizes.Tie as tie
 
 returns : tie.Need-returns
 returns c =
-    added_then (added c.before.before.before.before.append-exp-golomb.ensures)
-    (added_then (added c.before.before.before.append-exp-golomb2.ensures)
-    (added_then (added c.before.before.append-exp-golomb3.ensures)
-    (added_then (added c.before.append-exp-golomb4.ensures) (added c.append-exp-golomb5.ensures))))
+    added_then (added c.append_exp_golomb-min_cb.ensures)
+    (added_then (added c.append_exp_golomb-diff_cb.ensures)
+    (added_then (added c.append_exp_golomb-min_tb.ensures)
+    (added_then (added c.append_exp_golomb-diff_tb.ensures) (added c.append_exp_golomb.ensures))))
 
-pub add-sizes-spec : {M : Type 1} → statement M
-add-sizes-spec =
+pub add_sizes_spec : {M : Type 1} → statement M
+add_sizes_spec =
     tie.close
     (tie.spec
     (λ c κs. search rules)

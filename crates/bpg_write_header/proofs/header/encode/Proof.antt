@@ -15,22 +15,20 @@ nine c = search flags-count
 
 returns : tie.Need-returns
 returns c =
-    let pcm = c.before.before.before.before in
-    let sizes = pcm.before.before.before in
-    let start = sizes.before.before in (
-      header-gathered start.args.header sizes.before.empty.ensures
-          (added_then sizes.add-sizes.ensures
-          (added_then pcm.before.before.add-flag.ensures
-          (added_then pcm.before.add-flag2.ensures
-          (added_then pcm.add-pcm.ensures
-          (added_then c.before.before.before.add-flag3.ensures
-          (added_then c.before.before.add-flag4.ensures
-          (added_then c.before.add-sps.ensures c.add.ensures))))))),
-      λ depth rules. omega (arith, header-short depth start.args.header rules (nine start)),
+    (
+      header-gathered c.args.header c.empty.ensures
+          (added_then c.add_sizes-sizes.ensures
+          (added_then c.add_flag-offset.ensures
+          (added_then c.add_flag-pcm_flag.ensures
+          (added_then c.add_pcm-pcm.ensures
+          (added_then c.add_flag-smoothing.ensures
+          (added_then c.add_flag-sps_flag.ensures
+          (added_then c.add_sps-sps.ensures c.add.ensures))))))),
+      λ depth rules. omega (arith, header-short depth c.args.header rules (nine c.before.before.before.before.before.before.before.before.before)),
     )
 
-pub encode-spec : {M : Type 1} → statement M
-encode-spec =
+pub encode_spec : {M : Type 1} → statement M
+encode_spec =
     tie.close
     (tie.spec
     (λ c κs. search rules)

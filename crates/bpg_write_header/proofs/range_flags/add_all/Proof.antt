@@ -14,10 +14,10 @@ use Rattle.bpg_write_header.proofs.AddingLaws.{added-nothing, added_then}
 use Rattle.bpg_write_header.proofs.range_flags.add_all.Statement.{statement}
 use Rattle.bpg_write_header.proofs.range_flags.add_all.Tie as tie
 
-abbrev invariant-loop : tie.invariant-loop
+abbrev invariant-loop : tie.invariant-loop-k
 invariant-loop h all₀ k₀ all k = (k ≤ 9) × Added all₀ (take k h.range_flags) all
 
-abbrev decreases-loop : tie.decreases-loop
+abbrev decreases-loop : tie.decreases-loop-k
 decreases-loop h all₀ k₀ all k = 9 - k
 
 -- the array has nine flags
@@ -29,21 +29,21 @@ more : {b c d : BitBuffer} (flags : List Bool) (k : ℕ) → k < length flags �
     → Added b (take (k + 1) flags) d
 more flags k h p q = let n : k + 1 ≡ suc k = omega arith in rw (n, take-suc flags k false h) (added_then p q)
 
-loop-holds : tie.Need-loop-init invariant-loop decreases-loop
+loop-holds : tie.Need-loop-k-init invariant-loop decreases-loop
 loop-holds c = (omega arith, added-nothing _)
 
-loop-again : tie.Need-loop-preserved invariant-loop decreases-loop
+loop-again : tie.Need-loop-k-preserved invariant-loop decreases-loop
 loop-again c =
-    let l = c.before.before.before.loop in
-    (omega arith, more c.before.before.before.before.args.t2.range_flags l.k (omega (arith, nine c.before.before.before.before)) l.invariant.1 c.add-flag.ensures)
+    let l = c.loop-k in
+    (omega arith, more c.args.t2.range_flags l.k (omega (arith, nine c.before.before.before.before)) l.invariant.1 c.add_flag-all.ensures)
 
 returns : tie.Need-returns invariant-loop decreases-loop
 returns c =
-    let l = c.before.loop in
-    rw (take_all l.k c.before.before.args.t2.range_flags (omega (arith, nine c.before.before))) at l.invariant.1
+    let l = c.loop-k in
+    rw (take_all l.k c.args.t2.range_flags (omega (arith, nine c.before.before))) at l.invariant.1
 
-pub add-all-spec : {M : Type 1} → statement M
-add-all-spec =
+pub add_all_spec : {M : Type 1} → statement M
+add_all_spec =
     tie.close
     (tie.spec
     invariant-loop

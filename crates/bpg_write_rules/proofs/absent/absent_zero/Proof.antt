@@ -8,5 +8,5 @@ returns : tie.Need-returns
 unfolding absent_zero
 returns c = cc
 
-pub absent-zero-spec : {M : Type 1} → statement M
-absent-zero-spec = tie.close (tie.spec (λ c κs. search rules) (λ c κs. search rules) returns)
+pub absent_zero_spec : {M : Type 1} → statement M
+absent_zero_spec = tie.close (tie.spec (λ c κs. search rules) (λ c κs. search rules) returns)

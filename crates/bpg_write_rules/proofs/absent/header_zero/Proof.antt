@@ -8,7 +8,7 @@ use Rattle.bpg_write_rules.proofs.absent.header_zero.Tie as tie
 returns : tie.Need-returns
 unfolding header_zero
 returns c =
-    rw (c.absent-zero.ensures, and_assoc, and_assoc, and_assoc, and_assoc, and_assoc, and_assoc, and_assoc, and_assoc)
+    rw (c.absent_zero.ensures, and_assoc, and_assoc, and_assoc, and_assoc, and_assoc, and_assoc, and_assoc, and_assoc)
 
-pub header-zero-spec : {M : Type 1} → statement M
-header-zero-spec = tie.close (tie.spec (λ c κs. search rules) returns)
+pub header_zero_spec : {M : Type 1} → statement M
+header_zero_spec = tie.close (tie.spec (λ c κs. search rules) returns)

@@ -7,8 +7,8 @@ use Rattle.bpg_write_rules.proofs.absent.no_range_flag.Tie as tie
 returns : tie.Need-returns
 returns c = search nine-zero
 
-pub no-range-flag-spec : {M : Type 1} → statement M
-no-range-flag-spec =
+pub no_range_flag_spec : {M : Type 1} → statement M
+no_range_flag_spec =
     tie.close
     (tie.spec
     (λ c. search rules) (λ c. search rules) (λ c. search rules) (λ c. search rules) (λ c. search rules)

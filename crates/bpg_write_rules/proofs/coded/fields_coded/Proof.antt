@@ -8,5 +8,5 @@ returns : tie.Need-returns
 unfolding fields_coded
 returns c = simp and_assoc
 
-pub fields-coded-spec : {M : Type 1} → statement M
-fields-coded-spec = tie.close (tie.spec returns)
+pub fields_coded_spec : {M : Type 1} → statement M
+fields_coded_spec = tie.close (tie.spec returns)

@@ -8,23 +8,23 @@ use Rattle.bpg_ue7.proofs.Ue7Laws.{high, high_zero, size-high, size-bytes, size-
 use Rattle.bpg_write_ue7.proofs.ue7.size.Statement.{statement}
 use Rattle.bpg_write_ue7.proofs.ue7.size.Tie as tie
 
-abbrev invariant-loop : tie.invariant-loop
+abbrev invariant-loop : tie.invariant-loop-left
 invariant-loop v left₀ count₀ left count = count + length (high left) ≡ length (ue7_bytes v)
 
-abbrev decreases-loop : tie.decreases-loop
+abbrev decreases-loop : tie.decreases-loop-left
 decreases-loop v left₀ count₀ left count = left
 
-loop-holds : tie.Need-loop-init invariant-loop decreases-loop
+loop-holds : tie.Need-loop-left-init invariant-loop decreases-loop
 loop-holds c = omega (arith, size-bytes c.args.v)
 
-add-count : tie.Need-overflow-add-count invariant-loop decreases-loop
-add-count c = omega (arith, size-most c.before.before.args.v c.before.before.ranges.v.fits)
+add-count : tie.Need-overflow_add-count invariant-loop decreases-loop
+add-count c = omega (arith, size-most c.args.v c.ranges.v.fits)
 
-loop-again : tie.Need-loop-preserved invariant-loop decreases-loop
-loop-again c = omega (arith, size-high c.before.loop.left c.loop-test.true)
+loop-again : tie.Need-loop-left-preserved invariant-loop decreases-loop
+loop-again c = omega (arith, size-high c.loop-left.left c.loop-left-test.true)
 
 returns : tie.Need-returns invariant-loop decreases-loop
-returns c = let z : c.before.loop.left ≡ 0 = omega arith in omega (arith, ap length (ap high z ∙ high_zero))
+returns c = let z : c.loop-left.left ≡ 0 = omega arith in omega (arith, ap length (ap high z ∙ high_zero))
 
-pub size-spec : {M : Type 1} → statement M
-size-spec = tie.close (tie.spec invariant-loop decreases-loop loop-holds add-count (λ c. omega arith) loop-again returns)
+pub size_spec : {M : Type 1} → statement M
+size_spec = tie.close (tie.spec invariant-loop decreases-loop loop-holds add-count (λ c. omega arith) loop-again returns)

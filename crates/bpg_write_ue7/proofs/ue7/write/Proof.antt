@@ -14,12 +14,12 @@ use Rattle.bpg_ue7.proofs.Ue7Laws.{high, high_zero, high-more, bytes_high, size-
 use Rattle.bpg_write_ue7.proofs.ue7.write.Statement.{statement}
 use Rattle.bpg_write_ue7.proofs.ue7.write.Tie as tie
 
-abbrev invariant-loop : tie.invariant-loop
+abbrev invariant-loop : tie.invariant-loop-left
 invariant-loop out₀ v start count past next₀ left₀ out next left =
     (high left ++ drop next out ≡ high left₀ ++ drop next₀ out₀) × (take next out ≡ take next out₀) × (next ≡ start + length (high left))
     × (length out ≡ length out₀) × (next < past)
 
-abbrev decreases-loop : tie.decreases-loop
+abbrev decreases-loop : tie.decreases-loop-left
 decreases-loop out₀ v start count past next₀ left₀ out next left = left
 
 -- a store, and what stands from there on
@@ -49,44 +49,44 @@ done entry out at past v h k p g t =
     ∙ ap₂ (λ (a b : List ℕ). a ++ b) (t ∙ take-set-le at entry (past - 1) (v % 128) (omega arith))
     (sym (ap (λ (l : List ℕ). l ++ drop at out) high_zero) ∙ g ∙ rw (d, bytes_high v, append_assoc, ← bytes_high v, ← p))
 
-returns : tie.Need-returns invariant-loop decreases-loop
-returns c = let a = c.before.before.before.before.args in
+returns : tie.Need-returns-then-remaining-count invariant-loop decreases-loop
+returns c = let a = c.args in
     refused a.out.now a.at.0 (ue7_bytes a.v) (omega (arith, size-positive a.v))
 
-sub-next : tie.Need-overflow-sub-next invariant-loop decreases-loop
-sub-next c = omega (arith, size-positive c.before.before.before.before.args.v)
+sub-next : tie.Need-overflow_sub-next invariant-loop decreases-loop
+sub-next c = omega (arith, size-positive c.args.v)
 
-slice-write-out : tie.Need-slice-write-out invariant-loop decreases-loop
-slice-write-out c = omega (arith, size-positive c.before.before.before.before.args.v)
+slice-write-out : tie.Need-bounds-out-next invariant-loop decreases-loop
+slice-write-out c = omega (arith, size-positive c.args.v)
 
-loop-holds : tie.Need-loop-init invariant-loop decreases-loop
-loop-holds c = let a = c.before.before.before.before.args in
+loop-holds : tie.Need-loop-left-init invariant-loop decreases-loop
+loop-holds c = let a = c.args in
     (refl, refl, omega (arith, size-bytes a.v), refl, omega (arith, size-bytes a.v))
 
-sub-next-2 : tie.Need-overflow-sub-next-2 invariant-loop decreases-loop
-sub-next-2 c = omega (arith, size-high c.before.loop.left c.loop-test.true)
+sub-next-2 : tie.Need-overflow_sub-next-in-loop-left invariant-loop decreases-loop
+sub-next-2 c = omega (arith, size-high c.loop-left.left c.loop-left-test.true)
 
-slice-write-out-2 : tie.Need-slice-write-out-2 invariant-loop decreases-loop
-slice-write-out-2 c = omega (arith, simp length-set at c.before.loop.invariant.3)
+slice-write-out-2 : tie.Need-bounds-out-next-in-loop-left invariant-loop decreases-loop
+slice-write-out-2 c = omega (arith, simp length-set at c.loop-left.invariant.3)
 
-loop-again : tie.Need-loop-preserved invariant-loop decreases-loop
-loop-again c = let l = c.before.loop in
-    let m = size-high l.left c.loop-test.true in
+loop-again : tie.Need-loop-left-preserved invariant-loop decreases-loop
+loop-again c = let l = c.loop-left in
+    let m = size-high l.left c.loop-left-test.true in
     let n = simp length-set at l.invariant.3 in (
-      turn l.out l.next l.left c.loop-test.true (omega arith) (omega arith) ∙ l.invariant.0,
+      turn l.out l.next l.left c.loop-left-test.true (omega arith) (omega arith) ∙ l.invariant.0,
       untouched l.out _ l.next _ l.invariant.1,
       omega arith,
       length-set l.out _ _ ∙ l.invariant.3,
       omega arith,
     )
 
-same_length : tie.Need-same-length invariant-loop decreases-loop
-same_length c = c.before.loop.invariant.3 ∙ simp length-set
+same_length : tie.Need-shape_of-out invariant-loop decreases-loop
+same_length c = c.loop-left.invariant.3 ∙ simp length-set
 
-returns-2 : tie.Need-returns-2 invariant-loop decreases-loop
-returns-2 c = let l = c.before.loop in
-    let a = c.before.before.before.before.before.before.args in
-    let n = c.before.before.before.before.size in
+returns-2 : tie.Need-returns invariant-loop decreases-loop
+returns-2 c = let l = c.loop-left in
+    let a = c.args in
+    let n = c.size-count in
     let z : l.left ≡ 0 = omega arith in
     let i : l.next ≡ a.at.0 = omega (arith, ap length (ap high z ∙ high_zero)) in
     let s = stored a.out.now a.at.0 (ue7_bytes a.v) (omega arith) in (

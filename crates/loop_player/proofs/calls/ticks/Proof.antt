@@ -10,31 +10,31 @@ use Rattle.loop_player.proofs.Laws.{time-fits, and_left}
 use Rattle.loop_player.proofs.calls.ticks.Statement.{statement}
 use Rattle.loop_player.proofs.calls.ticks.Tie as tie
 
-returns : tie.Need-returns
+returns : tie.Need-returns-then-not-period_known
 unfolding ticks_answer
-returns c = rw (sym c.before.period-known.ensures ∙ not-true _ c.if1.true)
+returns c = rw (sym c.period_known.ensures ∙ not-true _ c.if-not-period_known.true)
 
-abbrev at : tie.Else1 → tie.Start
+abbrev at : tie.Else-not-period_known → tie.Start
 at c = c.before.before
 
-known : (c : tie.Else1) → period_known (at c).args.period-num (at c).args.period-den ≡ true
-known c = sym c.before.period-known.ensures ∙ not-false _ c.if1.false
+known : (c : tie.Else-not-period_known) → period_known (at c).args.period-num (at c).args.period-den ≡ true
+known c = sym c.period_known.ensures ∙ not-false _ c.if-not-period_known.false
 
-num-positive : (c : tie.Else1) → 0 < (at c).args.period-num
+num-positive : (c : tie.Else-not-period_known) → 0 < (at c).args.period-num
 num-positive c = ltb-true _ _ (and_left _ _ (known c))
 
-mul-t8 : tie.Need-overflow-mul-t8
-mul-t8 c = let f = time-fits c.before.before.before.args.ms c.in-64-bits.result (omega arith) (omega arith) in omega arith
+mul-t8 : tie.Need-overflow_mul-result
+mul-t8 c = let f = time-fits c.args.ms c.in_64_bits.result (omega arith) (omega arith) in omega arith
 
-div-t11 : tie.Need-nonzero-div-t11
+div-t11 : tie.Need-nonzero_div-result
 div-t11 c = let h = num-positive c.before.before in omega arith
 
-returns-2 : tie.Need-returns-2
+returns-2 : tie.Need-returns
 unfolding ticks_of ticks_answer
-returns-2 c = rw (c.before.in-64-bits.ensures.0, c.in-64-bits2.ensures.0, known c.before.before)
+returns-2 c = rw (c.in_64_bits.ensures.0, c.in_64_bits-2.ensures.0, known c.before.before)
 
-pub ticks-spec : {M : Type 1} → statement M
-ticks-spec =
+pub ticks_spec : {M : Type 1} → statement M
+ticks_spec =
     tie.close
     (tie.spec
     (λ c κs. search rules)

@@ -10,22 +10,22 @@ use Rattle.loop_player.proofs.Laws.{total-more, total-all, positive-more, positi
 use Rattle.loop_player.proofs.round.add_up.Statement.{statement}
 use Rattle.loop_player.proofs.round.add_up.Tie as tie
 
-abbrev invariant-loop : tie.invariant-loop
+abbrev invariant-loop : tie.invariant-loop-i
 invariant-loop durations ticks₀ positive₀ i₀ ticks positive i =
     (i ≤ length durations) × (ticks ≤ 65535 * i) × (ticks + total (drop i durations) ≡ total durations)
     × (positive && all_positive (drop i durations) ≡ all_positive durations)
 
-abbrev decreases-loop : tie.decreases-loop
+abbrev decreases-loop : tie.decreases-loop-i
 decreases-loop durations ticks₀ positive₀ i₀ ticks positive i = length durations - i
 
-loop-holds : tie.Need-loop-init invariant-loop decreases-loop
+loop-holds : tie.Need-loop-i-init invariant-loop decreases-loop
 loop-holds c = (omega arith, omega arith, omega arith, refl)
 
-loop-again : tie.Need-loop-preserved invariant-loop decreases-loop
+loop-again : tie.Need-loop-i-preserved invariant-loop decreases-loop
 loop-again c =
-    let l = c.before.before.before.loop in
-    let ds = c.before.before.before.before.before.args.durations.now in
-    let d = c.in-32-bits.ensures.0 in (
+    let l = c.loop-i in
+    let ds = c.args.durations.now in
+    let d = c.in_32_bits-d.ensures.0 in (
       omega arith,
       omega arith,
       rw d (total-more ds l.i l.ticks _ (omega arith) l.invariant.2),
@@ -34,11 +34,11 @@ loop-again c =
 
 returns : tie.Need-returns invariant-loop decreases-loop
 returns c =
-    let l = c.before.loop in
-    (total-all _ _ _ _ c.loop-test.false l.invariant.2, omega arith, positive-all _ _ _ _ c.loop-test.false l.invariant.3)
+    let l = c.loop-i in
+    (total-all _ _ _ _ c.loop-i-test.false l.invariant.2, omega arith, positive-all _ _ _ _ c.loop-i-test.false l.invariant.3)
 
-pub add-up-spec : {M : Type 1} → statement M
-add-up-spec =
+pub add_up_spec : {M : Type 1} → statement M
+add_up_spec =
     tie.close
     (tie.spec
     invariant-loop

@@ -9,32 +9,32 @@ use Rattle.loop_player.proofs.Laws.{find-more, find-here, find_none}
 use Rattle.loop_player.proofs.round.frame_in.Statement.{statement}
 use Rattle.loop_player.proofs.round.frame_in.Tie as tie
 
-abbrev invariant-loop : tie.invariant-loop
+abbrev invariant-loop : tie.invariant-loop-i
 invariant-loop durations r left₀ i₀ left i = (i ≤ length durations) × (i + frame_in (drop i durations) left ≡ frame_in durations r)
 
-abbrev decreases-loop : tie.decreases-loop
+abbrev decreases-loop : tie.decreases-loop-i
 decreases-loop durations r left₀ i₀ left i = length durations - i
 
-loop-holds : tie.Need-loop-init invariant-loop decreases-loop
+loop-holds : tie.Need-loop-i-init invariant-loop decreases-loop
 loop-holds c = (omega arith, omega arith)
 
-returns : tie.Need-returns invariant-loop decreases-loop
+returns : tie.Need-returns-then-left-d invariant-loop decreases-loop
 returns c =
-    let l = c.before.before.before.before.loop in
-    let ds = c.before.before.before.before.before.before.args.durations.now in
+    let l = c.loop-i in
+    let ds = c.args.durations.now in
     find-here ds l.i l.left _ (omega arith) (omega arith) l.invariant.1
 
-loop-again : tie.Need-loop-preserved invariant-loop decreases-loop
+loop-again : tie.Need-loop-i-preserved invariant-loop decreases-loop
 loop-again c =
-    let l = c.before.before.before.before.loop in
-    let ds = c.before.before.before.before.before.before.args.durations.now in
-    (omega arith, rw c.before.in-64-bits.ensures.0 (find-more ds l.i l.left _ (omega arith) (omega arith) l.invariant.1))
+    let l = c.loop-i in
+    let ds = c.args.durations.now in
+    (omega arith, rw c.in_64_bits-d.ensures.0 (find-more ds l.i l.left _ (omega arith) (omega arith) l.invariant.1))
 
-returns-2 : tie.Need-returns-2 invariant-loop decreases-loop
-returns-2 c = find_none _ _ _ _ c.loop-test.false c.before.loop.invariant.1
+returns-2 : tie.Need-returns invariant-loop decreases-loop
+returns-2 c = find_none _ _ _ _ c.loop-i-test.false c.loop-i.invariant.1
 
-pub frame-in-spec : {M : Type 1} → statement M
-frame-in-spec =
+pub frame_in_spec : {M : Type 1} → statement M
+frame_in_spec =
     tie.close
     (tie.spec
     invariant-loop

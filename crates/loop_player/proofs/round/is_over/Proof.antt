@@ -5,11 +5,11 @@ use Rattle.loop_player.proofs.Laws.{end_fits}
 use Rattle.loop_player.proofs.round.is_over.Statement.{statement}
 use Rattle.loop_player.proofs.round.is_over.Tie as tie
 
-mul-end : tie.Need-overflow-mul-end
-mul-end c = let f = end_fits c.in-64-bits.result c.before.args.round (omega arith) (omega arith) in omega arith
+mul-end : tie.Need-overflow_mul-end
+mul-end c = let f = end_fits c.in_64_bits.result c.args.round (omega arith) (omega arith) in omega arith
 
 returns : tie.Need-returns
-returns c = rw c.in-64-bits.ensures.0
+returns c = rw c.in_64_bits.ensures.0
 
-pub is-over-spec : {M : Type 1} → statement M
-is-over-spec = tie.close (tie.spec (λ c κs. search rules) mul-end returns)
+pub is_over_spec : {M : Type 1} → statement M
+is_over_spec = tie.close (tie.spec (λ c κs. search rules) mul-end returns)
