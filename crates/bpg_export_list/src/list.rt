@@ -35,7 +35,7 @@ pub fn put(out: &mut [u64], at: usize, part: &[u64])
 
 // Copies `from` over `to`, which is as long.
 fn copy(to: &mut [u64], from: &[u64])
-    requires* { do ⌜ (← ⟦to.len()⟧) ≡ (← ⟦from.len()⟧) ⌝ }
+    requires { count to.old ≡ count from.now }
     ensures { to.new ≡ from.now }
 {
     let mut i = 0;

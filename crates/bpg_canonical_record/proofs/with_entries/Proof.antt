@@ -27,7 +27,7 @@ decreases-loop size used all₀ k₀ all k = used - k
 
 -- the array has its length
 whole : (c : tie.Start invariant-loop decreases-loop) → length c.args.«record».entries ≡ max_entries
-whole c = entries-count c.args.«record» c.well-formed.0
+whole c = entries-count c.args.«record» c.well_formed.0
 
 loop-holds : tie.Need-loop-k-init invariant-loop decreases-loop
 loop-holds c = (omega arith, omega (arith, c.used_entries-used.ensures), refl)

@@ -13,12 +13,12 @@ use Rattle.bpg_canonical_record.proofs.with_flags.Statement.{statement}
 use Rattle.bpg_canonical_record.proofs.with_flags.Tie as tie
 
 -- the array has two headers
-two : (s : tie.Start) → length s.args.t1.headers ≡ 2
+two : (s : tie.Start) → length s.args.«record».headers ≡ 2
 two s = search headers-count
 
 returns : tie.Need-returns
 returns c =
-    let r = c.args.t1 in
+    let r = c.args.«record» in
     ap (λ (l : List Header). record_with (not (eqb r.entry_count 0)) false r.entries l r)
     (ap₂ (λ (x y : Header). set (set r.headers 0 x) 1 y) c.canonical_header.ensures c.canonical_header-2.ensures ∙ change-both canonical_header r.headers _ (two c.before.before.before.before))
 

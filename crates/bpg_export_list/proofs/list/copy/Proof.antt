@@ -7,10 +7,10 @@ use borrow.Author.Rules.{rules}
 use Rattle.bpg_export_list.proofs.list.copy.Statement.{statement}
 use Rattle.bpg_export_list.proofs.list.copy.Tie as tie
 
-abbrev invariant-loop : tie.invariant-loop
+abbrev invariant-loop : tie.invariant-loop-i
 invariant-loop to₀ from i₀ to i = Copied from to i
 
-abbrev decreases-loop : tie.decreases-loop
+abbrev decreases-loop : tie.decreases-loop-i
 decreases-loop to₀ from i₀ to i = length from - i
 
 pub copy_spec : {M : Type 1} → statement M

@@ -6,17 +6,16 @@ use borrow.Author.Rules.{rules}
 use Rattle.bpg_export_list.proofs.list.put.Statement.{statement}
 use Rattle.bpg_export_list.proofs.list.put.Tie as tie
 
-returns : tie.Need-returns
-returns c = let a = c.before.before.before.args in (refused a.out.now a.at a.part.now (omega arith)).0
+returns : tie.Need-returns-then-out-at
+returns c = let a = c.args in (refused a.out.now a.at a.part.now (omega arith)).0
 
-returns-2 : tie.Need-returns-2
-returns-2 c = let a = c.before.before.before.before.args in (refused a.out.now a.at a.part.now (omega arith)).0
+returns-2 : tie.Need-returns-then-out-at-2
+returns-2 c = let a = c.args in (refused a.out.now a.at a.part.now (omega arith)).0
 
-returns-3 : tie.Need-returns-3
+returns-3 : tie.Need-returns
 returns-3 c =
-    let w = c.before.before in
-    let a = w.before.before.before.before.before.before.args in
-    (part-written a.out.now _ a.part.now a.at w.copy.ensures (omega arith)).0
+    let a = c.args in
+    (part-written a.out.now _ a.part.now a.at c.copy.ensures (omega arith)).0
 
 pub put_spec : {M : Type 1} → statement M
 put_spec =

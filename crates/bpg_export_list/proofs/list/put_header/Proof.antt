@@ -7,13 +7,11 @@ use Rattle.bpg_export_list.proofs.list.put_header.Tie as tie
 
 returns : tie.Need-returns
 returns c =
-    let w = c.before.before in
-    let h = w.before.before.before in
-    let a = h.before.before.args in
-    (w.put.ensures ∙ ap (written a.out.now a.at) h.header-numbers.ensures.0, h.header-numbers.ensures.1)
+    let a = c.args in
+    (c.put.ensures ∙ ap (written a.out.now a.at) c.header_numbers-part.ensures.0, c.header_numbers-part.ensures.1)
 
-pub put-header-spec : {M : Type 1} → statement M
-put-header-spec =
+pub put_header_spec : {M : Type 1} → statement M
+put_header_spec =
     tie.close
     (tie.spec
     (λ c κs. search rules) (λ c. search rules) (λ c κs. search rules) (λ c. search rules) returns)

@@ -14,71 +14,57 @@ use Rattle.bpg_frame_units.proofs.CountLaws.{Counting, count_past, counting, cou
 use Rattle.bpg_frame_units.proofs.count.count_frames.Statement.{statement}
 use Rattle.bpg_frame_units.proofs.count.count_frames.Tie as tie
 
-abbrev invariant-loop : tie.invariant-loop
+abbrev invariant-loop : tie.invariant-loop-wait
 invariant-loop file alpha found₀ start₀ wait₀ found start wait = Counting file start₀ alpha start found wait
 
-abbrev decreases-loop : tie.decreases-loop
+abbrev decreases-loop : tie.decreases-loop-wait
 decreases-loop file alpha found₀ start₀ wait₀ found start wait = length file - start
 
-abbrev file_of : tie.After-scan-at invariant-loop decreases-loop → List ℕ
-file_of s = s.before.before.before.before.before.before.args.file.now
+abbrev file_of : tie.After-scan_at-scan invariant-loop decreases-loop → List ℕ
+file_of s = s.args.file.now
 
 -- a unit that keeps the rules
-abbrev kept-unit : (c : tie.Else2 invariant-loop decreases-loop)
-    → let s = c.before.before in let i = s.before.loop.start in (keeps_rules (bytes_at (file_of s) i) ≡ true) × (s.scan-at.result.cut ≡ cut_at (file_of s) i)
-kept-unit c = let s = c.before.before in says-kept _ _ _ s.scan-at.ensures (not-false _ c.if2.false)
+abbrev kept-unit : (c : tie.Else-not-scan invariant-loop decreases-loop)
+    → let i = c.loop-wait.start in (keeps_rules (bytes_at (file_of c.before.before) i) ≡ true) × (c.scan_at-scan.result.cut ≡ cut_at (file_of c.before.before) i)
+kept-unit c = says-kept _ _ _ c.scan_at-scan.ensures (not-false _ c.if-not-scan.false)
 
-span : (c : tie.Else2 invariant-loop decreases-loop) → let s = c.before.before in let l = s.before.loop in let r = s.scan-at.result.cut in
-    (l.start ≤ r.end.0) × (r.end.0 ≤ length (file_of s)) × (l.start ≤ r.code.0)
-span c = count-span c.before.before.before.loop.invariant _ (kept-unit c).1
+span : (c : tie.Else-not-scan invariant-loop decreases-loop) → let l = c.loop-wait in let r = c.scan_at-scan.result.cut in
+    (l.start ≤ r.end.0) × (r.end.0 ≤ length (file_of c.before.before)) × (l.start ≤ r.code.0)
+span c = count-span c.loop-wait.invariant _ (kept-unit c).1
 
-returns : tie.Need-returns invariant-loop decreases-loop
-returns c = c.refused.ensures ∙ count_past _ _ _ c.before.if1.true
+returns : tie.Need-returns-then-file-data invariant-loop decreases-loop
+returns c = c.refused.ensures ∙ count_past _ _ _ c.if-file-data.true
 
-returns-2 : tie.Need-returns-2 invariant-loop decreases-loop
+returns-2 : tie.Need-returns-then-not-scan invariant-loop decreases-loop
 returns-2 c =
-    let s = c.before.before.before in
-    let l = s.before.loop in
-    c.refused2.ensures ∙ count-broken l.invariant (says-broken (file_of s) l.start _ s.scan-at.ensures (not-true _ c.before.if2.true))
+    let l = c.loop-wait in
+    c.refused-then-not-scan.ensures ∙ count-broken l.invariant (says-broken (file_of c.before.before.before) l.start _ c.scan_at-scan.ensures (not-true _ c.if-not-scan.true))
 
-returns-3 : tie.Need-returns-3 invariant-loop decreases-loop
+returns-3 : tie.Need-returns-then-verdict-ne0 invariant-loop decreases-loop
 returns-3 c =
-    let j = c.before.before.before in
-    let u = j.before.before.before in
-    c.refused3.ensures ∙ count-refused u.before.before.before.loop.invariant _ (kept-unit u).1 _ j.judge.ensures c.before.if3.true
+    c.refused-then-verdict-ne0.ensures ∙ count-refused c.loop-wait.invariant _ (kept-unit c.before.before.before.before.before.before).1 _ c.judge-verdict.ensures c.if-verdict-ne0.true
 
-returns-4 : tie.Need-returns-4 invariant-loop decreases-loop
+returns-4 : tie.Need-returns-then-file-cut invariant-loop decreases-loop
 returns-4 c =
-    let a = c.before.before.before in
-    let t = a.before in
-    let j = t.before.before.before in
-    let u = j.before.before.before in
     c.end.ensures
-    ∙ count-last u.before.before.before.loop.invariant _ (kept-unit u).1 _ j.judge.ensures t.before.if3.false _ t.tally.ensures _
-    a.wait-after.ensures c.before.if4.true
+    ∙ count-last c.loop-wait.invariant _ (kept-unit c.before.before.before.before.before.before.before.before.before.before).1 _ c.judge-verdict.ensures c.if-verdict-ne0.false _ c.tally-found.ensures _
+    c.wait_after-wait.ensures c.if-file-cut.true
 
-add_start : tie.Need-overflow-add-start invariant-loop decreases-loop
+add_start : tie.Need-overflow_add-start invariant-loop decreases-loop
 add_start c =
-    let u = c.before.before.before.before.before.before.before.before.before.before in
-    omega (arith, count_room u.before.before.before.loop.invariant _ (kept-unit u).1 c.before.if4.false)
+    omega (arith, count_room c.loop-wait.invariant _ (kept-unit c.before.before.before.before.before.before.before.before.before.before).1 c.if-file-cut.false)
 
-loop-less : tie.Need-loop-smaller invariant-loop decreases-loop
+loop-less : tie.Need-loop-wait-smaller invariant-loop decreases-loop
 loop-less c =
-    let e = c.before in
-    omega (arith, e.if4.false, span e.before.before.before.before.before.before.before.before.before)
+    omega (arith, c.if-file-cut.false, span c.before.before.before.before.before.before.before.before.before.before)
 
-loop-again : tie.Need-loop-preserved invariant-loop decreases-loop
+loop-again : tie.Need-loop-wait-preserved invariant-loop decreases-loop
 loop-again c =
-    let e = c.before in
-    let a = e.before.before in
-    let t = a.before in
-    let j = t.before.before.before in
-    let u = j.before.before.before in
-    count-more u.before.before.before.loop.invariant _ (kept-unit u).1 _ j.judge.ensures t.before.if3.false _ t.tally.ensures _
-    a.wait-after.ensures e.if4.false
+    count-more c.loop-wait.invariant _ (kept-unit c.before.before.before.before.before.before.before.before.before.before).1 _ c.judge-verdict.ensures c.if-verdict-ne0.false _ c.tally-found.ensures _
+    c.wait_after-wait.ensures c.if-file-cut.false
 
-pub count-frames-spec : {M : Type 1} → statement M
-count-frames-spec =
+pub count_frames_spec : {M : Type 1} → statement M
+count_frames_spec =
     tie.close
     (tie.spec
     invariant-loop
@@ -86,14 +72,14 @@ count-frames-spec =
     (λ c κs. search rules)
     returns
     (λ c κs. search rules)
-    (λ c. counting _ _ _ _ c.before.if1.false c.nothing-waits.ensures)
+    (λ c. counting _ _ _ _ c.if-file-data.false c.nothing_waits-wait.ensures)
     (λ c κs. search rules)
     (λ c κs. search rules)
     returns-2
     (λ c. (span c.before).0)
     (λ c. (span c.before).0)
     (λ c. (span c.before).1)
-    (λ c κs. let u = c.before.before in count_kept u.before.before.before.loop.invariant _ (kept-unit u).1 (kept-unit u).0)
+    (λ c κs. count_kept c.loop-wait.invariant _ (kept-unit c.before.before).1 (kept-unit c.before.before).0)
     (λ c κs. search rules)
     returns-3
     (λ c κs. omega arith)

@@ -6,10 +6,10 @@ use Rattle.bpg_codec.proofs.Select.{select-true, select-false}
 use Rattle.bpg_frame_units.proofs.count.end.Statement.{statement}
 use Rattle.bpg_frame_units.proofs.count.end.Tie as tie
 
-pub end-spec : {M : Type 1} → statement M
-end-spec =
+pub end_spec : {M : Type 1} → statement M
+end_spec =
     tie.close
     (tie.spec
     (λ c κs. search rules)
-    (λ c. c.refused.ensures ∙ sym (select-false _ _ (ne_eqb _ 0 c.before.if1.true)))
-    (λ c. sym (select-true _ _ (eq-eqb _ 0 c.if1.false))))
+    (λ c. c.refused.ensures ∙ sym (select-false _ _ (ne_eqb _ 0 c.if-wait-ne0.true)))
+    (λ c. sym (select-true _ _ (eq-eqb _ 0 c.if-wait-ne0.false))))

@@ -5,24 +5,21 @@ use Rattle.bpg_frame_units.proofs.UnitLaws.{judged-refused, judged-settled, judg
 use Rattle.bpg_frame_units.proofs.judge.judge.Statement.{statement}
 use Rattle.bpg_frame_units.proofs.judge.judge.Tie as tie
 
-returns : tie.Need-returns
+returns : tie.Need-returns-then-said-ne0
 returns c =
-    let s = c.before.before in
-    let a = s.before.before.args in
-    judged-refused a.alpha a.pending a.unit.now _ s.says.ensures c.if1.true
+    let a = c.args in
+    judged-refused a.alpha a.pending a.unit.now _ c.says-said.ensures c.if-said-ne0.true
 
-returns-2 : tie.Need-returns-2
+returns-2 : tie.Need-returns-then-settles
 returns-2 c =
-    let s = c.before.before.before.before in
-    let a = s.before.before.args in
-    judged-settled a.alpha a.pending a.unit.now _ s.says.ensures (sym c.before.settles.ensures ∙ c.if2.true)
+    let a = c.args in
+    judged-settled a.alpha a.pending a.unit.now _ c.says-said.ensures (sym c.settles.ensures ∙ c.if-settles.true)
 
-returns-3 : tie.Need-returns-3
+returns-3 : tie.Need-returns
 returns-3 c =
-    let s = c.before.before.before.before.before in
-    let a = s.before.before.args in
-    c.refused-by.ensures
-    ∙ judged-clash a.alpha a.pending a.unit.now _ s.says.ensures (sym c.before.before.settles.ensures ∙ c.before.if2.false)
+    let a = c.args in
+    c.refused_by.ensures
+    ∙ judged-clash a.alpha a.pending a.unit.now _ c.says-said.ensures (sym c.settles.ensures ∙ c.if-settles.false)
 
-pub judge-spec : {M : Type 1} → statement M
-judge-spec = tie.close (tie.spec (λ c κs. search rules) returns (λ c κs. search rules) returns-2 (λ c κs. search rules) returns-3)
+pub judge_spec : {M : Type 1} → statement M
+judge_spec = tie.close (tie.spec (λ c κs. search rules) returns (λ c κs. search rules) returns-2 (λ c κs. search rules) returns-3)

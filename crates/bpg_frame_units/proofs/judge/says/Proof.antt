@@ -10,40 +10,34 @@ use Rattle.bpg_frame_units.proofs.UnitLaws.{unit-short, unit-forbidden, unit-tem
 use Rattle.bpg_frame_units.proofs.judge.says.Statement.{statement}
 use Rattle.bpg_frame_units.proofs.judge.says.Tie as tie
 
-abbrev unit_of : tie.After-header → List ℕ
-unit_of h = h.before.before.before.before.before.args.unit.now
+abbrev unit_of : tie.After-header-header → List ℕ
+unit_of h = h.args.unit.now
 
-temporal : (c : tie.Else3) → get_or (unit_of c.before.before.before) 1 0 % 8 ≡ 0 → ⊥
-temporal c e = c.if3.false (ap (λ (x : NalHeader). x.nuh_temporal_id_plus1) c.before.before.before.header.ensures ∙ e)
+temporal : (c : tie.Else-header-eq0) → get_or (unit_of c.before.before.before) 1 0 % 8 ≡ 0 → ⊥
+temporal c e = c.if-header-eq0.false (ap (λ (x : NalHeader). x.nuh_temporal_id_plus1) c.header-header.ensures ∙ e)
 
-returns : tie.Need-returns
-returns c = c.refused-by.ensures ∙ unit-short _ c.before.before.before.args.unit.now c.before.if1.true
+returns : tie.Need-returns-then-unit-lt2
+returns c = c.refused_by.ensures ∙ unit-short _ c.args.unit.now c.if-unit-lt2.true
 
-returns-2 : tie.Need-returns-2
+returns-2 : tie.Need-returns-then-header
 returns-2 c =
-    let h = c.before.before in
-    c.refused-by2.ensures ∙ unit-forbidden _ (unit_of h) h.before.before.before.if1.false (rw h.header.ensures at c.before.if2.true)
+    c.refused_by-then-header.ensures ∙ unit-forbidden _ (unit_of c.before.before) c.if-unit-lt2.false (rw c.header-header.ensures at c.if-header.true)
 
-returns-3 : tie.Need-returns-3
+returns-3 : tie.Need-returns-then-header-eq0
 returns-3 c =
-    let k = c.before.before.before in
-    let h = k.before in
-    c.refused-by3.ensures
-    ∙ unit-temporal _ (unit_of h) h.before.before.before.if1.false (rw h.header.ensures at k.if2.false)
-    (rw h.header.ensures at c.before.if3.true)
+    c.refused_by-then-header-eq0.ensures
+    ∙ unit-temporal _ (unit_of c.before.before.before.before) c.if-unit-lt2.false (rw c.header-header.ensures at c.if-header.false)
+    (rw c.header-header.ensures at c.if-header-eq0.true)
 
-returns-4 : tie.Need-returns-4
+returns-4 : tie.Need-returns
 returns-4 c =
-    let t = c.before in
-    let k = t.before.before in
-    let h = k.before in
-    c.verdict-on.ensures (record { long = h.before.before.before.if1.false; temporal = λ e. temporal t (rw e) })
+    c.verdict_on.ensures (record { long = c.if-unit-lt2.false; temporal = λ e. temporal c.before (rw e) })
     ∙ ap verdict_of
-    (unit-kind _ (unit_of h) h.before.before.before.if1.false (rw h.header.ensures at k.if2.false) (temporal t)
-    h.before.before.before.before.before.requires)
+    (unit-kind _ (unit_of c.before.before.before.before) c.if-unit-lt2.false (rw c.header-header.ensures at c.if-header.false) (temporal c.before)
+    c.requires)
 
-pub says-spec : {M : Type 1} → statement M
-says-spec =
+pub says_spec : {M : Type 1} → statement M
+says_spec =
     tie.close
     (tie.spec
     (λ c κs. search rules)

@@ -13,52 +13,43 @@ use Rattle.bpg_frame_units.proofs.UnitLaws.{kind-slice, kind-sei, other-passes, 
 use Rattle.bpg_frame_units.proofs.kind.verdict_on.Statement.{statement}
 use Rattle.bpg_frame_units.proofs.kind.verdict_on.Tie as tie
 
-abbrev unit_of : tie.After-header → List ℕ
-unit_of h = h.before.before.before.before.before.args.unit.now
+abbrev unit_of : tie.After-header-header → List ℕ
+unit_of h = h.args.unit.now
 
-no-slice : (c : tie.Else2) → is_slice (header_of (get_or (unit_of c.before.before) 0 0) (get_or (unit_of c.before.before) 1 0)) ≡ false
-no-slice c = rw c.before.before.header.ensures at (sym c.before.is_Slice.ensures ∙ c.if2.false)
+no-slice : (c : tie.Else-is_slice) → is_slice (header_of (get_or (unit_of c.before.before) 0 0) (get_or (unit_of c.before.before) 1 0)) ≡ false
+no-slice c = rw c.header-header.ensures at (sym c.is_slice.ensures ∙ c.if-is_slice.false)
 
-no-sei : (c : tie.Else3)
+no-sei : (c : tie.Else-is_prefix_sei)
     → is_prefix_sei (header_of (get_or (unit_of c.before.before.before.before) 0 0) (get_or (unit_of c.before.before.before.before) 1 0)) ≡ false
-no-sei c = rw c.before.before.before.before.header.ensures at (sym c.before.is-prefix-sei.ensures ∙ c.if3.false)
+no-sei c = rw c.header-header.ensures at (sym c.is_prefix_sei.ensures ∙ c.if-is_prefix_sei.false)
 
-returns : tie.Need-returns
-returns c = λ u. absurd (omega (arith, u.long, c.before.if1.true))
+returns : tie.Need-returns-then-unit-lt2
+returns c = λ u. absurd (omega (arith, u.long, c.if-unit-lt2.true))
 
-returns-2 : tie.Need-returns-2
+returns-2 : tie.Need-returns-then-is_slice
 returns-2 c =
-    let h = c.before.before.before in
-    let s = rw h.header.ensures at (sym c.before.before.is_Slice.ensures ∙ c.before.if2.true) in
-    λ u. c.slice.ensures ∙ ap verdict_of (sym (kind-slice h.before.before.before.before.before.args.alpha (unit_of h) _ s))
+    let s = rw c.header-header.ensures at (sym c.is_slice.ensures ∙ c.if-is_slice.true) in
+    λ u. c.slice.ensures ∙ ap verdict_of (sym (kind-slice c.args.alpha (unit_of c.before.before.before) _ s))
 
-returns-3 : tie.Need-returns-3
+returns-3 : tie.Need-returns-then-is_prefix_sei
 returns-3 c =
-    let e = c.before.before.before in
-    let h = e.before.before in
-    let s = rw h.header.ensures at (sym c.before.before.is-prefix-sei.ensures ∙ c.before.if3.true) in
+    let s = rw c.header-header.ensures at (sym c.is_prefix_sei.ensures ∙ c.if-is_prefix_sei.true) in
     λ u.
-    c.prefix-sei.ensures u.temporal
-    ∙ ap verdict_of (sym (kind-sei h.before.before.before.before.before.args.alpha (unit_of h) _ (no-slice e) s))
+    c.prefix_sei.ensures u.temporal
+    ∙ ap verdict_of (sym (kind-sei c.args.alpha (unit_of c.before.before.before.before.before) _ (no-slice c.before.before.before) s))
 
-returns-4 : tie.Need-returns-4
+returns-4 : tie.Need-returns-then-is_allowed
 returns-4 c =
-    let k = c.before.before.before in
-    let e = k.before.before in
-    let h = e.before.before in
-    let s = rw h.header.ensures at (sym c.before.before.is-allowed.ensures ∙ c.before.if4.true) in
-    λ u. c.refused-by2.ensures ∙ other-passes h.before.before.before.before.before.args.alpha (unit_of h) _ (no-slice e) (no-sei k) s
+    let s = rw c.header-header.ensures at (sym c.is_allowed.ensures ∙ c.if-is_allowed.true) in
+    λ u. c.refused_by-then-is_allowed.ensures ∙ other-passes c.args.alpha (unit_of c.before.before.before.before.before.before.before) _ (no-slice c.before.before.before.before.before) (no-sei c.before.before.before) s
 
-returns-5 : tie.Need-returns-5
+returns-5 : tie.Need-returns
 returns-5 c =
-    let k = c.before.before.before in
-    let e = k.before.before in
-    let h = e.before.before in
-    let s = rw h.header.ensures at (sym c.before.before.is-allowed.ensures ∙ c.before.if4.false) in
-    λ u. c.refused-by3.ensures ∙ other-refused h.before.before.before.before.before.args.alpha (unit_of h) _ (no-slice e) (no-sei k) s
+    let s = rw c.header-header.ensures at (sym c.is_allowed.ensures ∙ c.if-is_allowed.false) in
+    λ u. c.refused_by-2.ensures ∙ other-refused c.args.alpha (unit_of c.before.before.before.before.before.before.before) _ (no-slice c.before.before.before.before.before) (no-sei c.before.before.before) s
 
-pub verdict-on-spec : {M : Type 1} → statement M
-verdict-on-spec =
+pub verdict_on_spec : {M : Type 1} → statement M
+verdict_on_spec =
     tie.close
     (tie.spec
     (λ c κs. search rules)

@@ -6,11 +6,11 @@ use Rattle.bpg_codec.proofs.Select.{select-true, select-false}
 use Rattle.bpg_frame_units.proofs.wait.wait_after.Statement.{statement}
 use Rattle.bpg_frame_units.proofs.wait.wait_after.Tie as tie
 
-pub wait-after-spec : {M : Type 1} → statement M
-wait-after-spec =
+pub wait_after_spec : {M : Type 1} → statement M
+wait_after_spec =
     tie.close
     (tie.spec
     (λ c κs. search rules)
-    (λ c. c.nothing-waits.ensures ∙ sym (select-true _ _ c.before.if1.true))
-    (λ c. sym (select-false _ _ c.before.before.if1.false ∙ select-true _ _ (eq-eqb _ 0 c.if2.true)))
-    (λ c. sym (select-false _ _ c.before.before.if1.false ∙ select-false _ _ (ne_eqb _ 0 c.if2.false))))
+    (λ c. c.nothing_waits.ensures ∙ sym (select-true _ _ c.if-verdict.true))
+    (λ c. sym (select-false _ _ c.if-verdict.false ∙ select-true _ _ (eq-eqb _ 0 c.if-verdict-eq0.true)))
+    (λ c. sym (select-false _ _ c.if-verdict.false ∙ select-false _ _ (ne_eqb _ 0 c.if-verdict-eq0.false))))

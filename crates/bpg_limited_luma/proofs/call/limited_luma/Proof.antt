@@ -12,29 +12,29 @@ use Rattle.bpg_limited_luma.proofs.Tables.{tested}
 use Rattle.bpg_limited_luma.proofs.call.limited_luma.Statement.{statement}
 use Rattle.bpg_limited_luma.proofs.call.limited_luma.Tie as tie
 
-module _ (c : tie.After-judge-1) where
+module _ (c : tie.After-judge_1-answer) where
   abbrev start : tie.Start
   start = c.before.before.before.before
 
-  answered : c.judge-1.result ≡ answer_of (judged 8 (start.args.y.now ∷ []) (start.args.out.now ∷ []))
-  answered = judged-answer 8 _ [] (start.args.out.now ∷ []) _ c.judge-1.ensures
+  answered : c.judge_1-answer.result ≡ answer_of (judged 8 (start.args.y.now ∷ []) (start.args.out.now ∷ []))
+  answered = judged-answer 8 _ [] (start.args.out.now ∷ []) _ c.judge_1-answer.ensures
 
-returns : tie.Need-returns
-returns c = (answered c.before.before, kept _ _ _ c.if1.true)
+returns : tie.Need-returns-then-answer-ne0
+returns c = (answered c.before.before, kept _ _ _ c.if-answer-ne0.true)
 
-passed : (c : tie.Else1) → Accepted 8 (start c.before.before).args.y.now [] ((start c.before.before).args.out.now ∷ [])
-passed c = accepted _ _ _ _ _ c.before.before.judge-1.ensures c.if1.false
+passed : (c : tie.Else-answer-ne0) → Accepted 8 (start c.before.before).args.y.now [] ((start c.before.before).args.out.now ∷ [])
+passed c = accepted _ _ _ _ _ c.judge_1-answer.ensures c.if-answer-ne0.false
 
 -- the table's rule, by one test that is computed; the plane is 0, and the buffer 1
-look-up-requires : tie.Need-look-up-requires
+look-up-requires : tie.Need-look_up-requires
 unfolding max_sample full_luma select nearest
 look-up-requires c κs = let p = passed c.before.before in (tested 256 full_luma _ refl tt, (same p 1 0, in-plane p refl 0))
 
-returns-2 : tie.Need-returns-2
-returns-2 c = (answered c.before.before.before.before.before.before.before, stored _ _ c.before.before.before.before.before.if1.false c.before.before.look_up.ensures)
+returns-2 : tie.Need-returns
+returns-2 c = (answered c.before.before.before.before.before.before.before, stored _ _ c.if-answer-ne0.false c.look_up.ensures)
 
-pub limited-luma-spec : {M : Type 1} → statement M
-limited-luma-spec =
+pub limited_luma_spec : {M : Type 1} → statement M
+limited_luma_spec =
     tie.close
     (tie.spec
     (λ c. search rules)

@@ -9,23 +9,22 @@ use Rattle.bpg_sample_rules.proofs.Filling.{Filled, fill_begins, map_next, map-e
 use Rattle.bpg_limited_luma.proofs.plane.look_up.Statement.{statement}
 use Rattle.bpg_limited_luma.proofs.plane.look_up.Tie as tie
 
-abbrev invariant-loop : tie.invariant-loop
+abbrev invariant-loop : tie.invariant-loop-i
 invariant-loop y table out₀ i₀ out i = Filled (length y) (map full_luma y) out i
 
-abbrev decreases-loop : tie.decreases-loop
+abbrev decreases-loop : tie.decreases-loop-i
 decreases-loop y table out₀ i₀ out i = length y - i
 
 -- each sample is an index of the table
-index : (c : tie.In-loop invariant-loop decreases-loop) → get_or c.before.before.args.y.now c.before.loop.i 0 < 256
-index c = omega (arith, at-most-largest c.before.before.args.y.now c.before.loop.i, c.before.before.requires.1.1)
+index : (c : tie.In-loop-i invariant-loop decreases-loop) → get_or c.args.y.now c.loop-i.i 0 < 256
+index c = omega (arith, at-most-largest c.args.y.now c.loop-i.i, c.requires.1.1)
 
-loop-again : tie.Need-loop-preserved invariant-loop decreases-loop
+loop-again : tie.Need-loop-i-preserved invariant-loop decreases-loop
 loop-again c =
-    let l = c.before.before in
-    map_next full_luma l.before.before.args.y.now _ l.before.loop.i l.before.loop.invariant _ (l.before.before.requires.0.value _ (index l)) l.loop-test.true
+    map_next full_luma c.args.y.now _ c.loop-i.i c.loop-i.invariant _ (c.requires.0.value _ (index c.before.before)) c.loop-i-test.true
 
-pub look-up-spec : {M : Type 1} → statement M
-look-up-spec =
+pub look_up_spec : {M : Type 1} → statement M
+look_up_spec =
     tie.close
     (tie.spec
     invariant-loop
@@ -35,7 +34,7 @@ look-up-spec =
     (λ c. omega arith)
     (λ c. omega (arith, index c.before))
     (λ c. omega (arith, index c.before))
-    (λ c. omega (arith, index c.before.before, c.before.before.before.before.requires.0.size))
+    (λ c. omega (arith, index c.before.before, c.requires.0.size))
     (λ c. omega arith)
     (λ c. omega arith)
     (λ c. omega arith)

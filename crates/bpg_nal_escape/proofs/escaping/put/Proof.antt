@@ -65,7 +65,7 @@ put-marked-requires c κs =
 
 same_length : tie.Need-shape_of-out-then-bytes-at invariant-loop decreases-loop
 same_length c =
-    c.put_marked.auto.0 ∙ length-filling c.loop-left.invariant.2 c.requires.1
+    c.put_marked.auto.out ∙ length-filling c.loop-left.invariant.2 c.requires.1
 
 returns : tie.Need-returns-then-bytes-at invariant-loop decreases-loop
 returns c =
@@ -92,7 +92,7 @@ loop-again c =
 
 same-length-2 : tie.Need-shape_of-out invariant-loop decreases-loop
 same-length-2 c =
-    c.write.auto.0 ∙ length-filling c.loop-left.invariant.2 c.requires.1
+    c.write.auto.out ∙ length-filling c.loop-left.invariant.2 c.requires.1
 
 returns-2 : tie.Need-returns invariant-loop decreases-loop
 returns-2 c =

@@ -9,7 +9,7 @@ use Rattle.bpg_nal_escape.proofs.escaping.put_marked.Statement.{statement}
 use Rattle.bpg_nal_escape.proofs.escaping.put_marked.Tie as tie
 
 -- the write fits
-inside : (c : tie.After-slice_known-2-1) → c.write-mark.result.0 < length c.write-mark.new.0
+inside : (c : tie.After-slice_known-2-1) → c.write-mark.result.0 < length c.write-mark.new.out
 inside c =
     let a = c.args in
     end-inside a.out.now a.bytes.now _ a.at.0 _ 3 c.requires c.write-mark.ensures.0 c.write-mark.ensures.1

@@ -63,7 +63,7 @@ loop-again c =
 
 same_length : tie.Need-shape_of-out invariant-loop decreases-loop
 same_length c =
-    c.write.auto.0 ∙ length-filling c.loop-left.invariant.3 c.requires.1.1
+    c.write.auto.out ∙ length-filling c.loop-left.invariant.3 c.requires.1.1
 
 returns : tie.Need-returns invariant-loop decreases-loop
 returns c =

@@ -14,18 +14,18 @@ use Rattle.bpg_nal_escape.proofs.unescaping.unescape.Tie as tie
 returns : tie.Need-returns-then-not-checked
 returns c =
     let s = c.args in
-    let a = un-broken s.unit.now s.out.now _ c.check-checked.ensures (c.if-not-checked.true) in
+    let a = un-broken s.unit.now s.out.now _ c.check-checked.ensures (not-true _ c.if-not-checked.true) in
     (c.written_refused.ensures ∙ a.0, a.1)
 
 returns-2 : tie.Need-returns-then-out-checked
 returns-2 c =
     let s = c.args in
-    let a = un-small s.unit.now s.out.now _ c.check-checked.ensures (c.if-not-checked.false) c.if-out-checked.true in
+    let a = un-small s.unit.now s.out.now _ c.check-checked.ensures (not-false _ c.if-not-checked.false) c.if-out-checked.true in
     (c.written_refused-then-out-checked.ensures ∙ a.0, a.1)
 
 judged : (b : tie.Else-not-checked) → let u = b.args.unit.now in
     (keeps_rules u ≡ true) × (b.check-checked.result.count ≡ length (unescape u)) × (b.check-checked.result.count ≤ length u)
-judged b = let s = b.args in un-judged s.unit.now s.out.now _ b.check-checked.ensures (b.if-not-checked.false)
+judged b = let s = b.args in un-judged s.unit.now s.out.now _ b.check-checked.ensures (not-false _ b.if-not-checked.false)
 
 put-requires : tie.Need-put-requires
 put-requires c κs = let j = judged c.before.before.before.before in (j.0, (omega arith, omega arith))
@@ -33,7 +33,7 @@ put-requires c κs = let j = judged c.before.before.before.before in (j.0, (omeg
 returns-3 : tie.Need-returns
 returns-3 c =
     let s = c.args in
-    un-done s.unit.now s.out.now _ c.check-checked.ensures (c.if-not-checked.false) _ c.if-out-checked.false c.put.ensures
+    un-done s.unit.now s.out.now _ c.check-checked.ensures (not-false _ c.if-not-checked.false) _ c.if-out-checked.false c.put.ensures
 
 pub unescape_spec : {M : Type 1} → statement M
 unescape_spec =

@@ -53,7 +53,7 @@ module _ (c : tie.At-loop-next invariant-loop decreases-loop) where
   at = start.args.at.0
 
   abbrev block : Block
-  block = made c.loop-next.entry-count c.loop-next.animated c.loop-next.animation
+  block = made c.loop-next.entry_count c.loop-next.animated c.loop-next.animation
 
   short : read_entries max_entries false at (drop at region) ≡ entries_in region at
   short = in-region region at c.if-region-gt-MAX_FILE.false
@@ -94,10 +94,10 @@ module _ (c : tie.After-struct_known-in-loop-next-1 invariant-loop decreases-loo
   read = c.before.before.before
 
   here : Started (region (turn read)) (turn read).loop-next.next (step read)
-  here = step-started _ false _ (step read) read.read-step.ensures (omega (arith, read.loop-next-test.taken)) c.if-step-ne0.false
+  here = step-started _ false _ (step read) read.read-step.ensures (omega (arith, read.loop-next-test.true)) c.if-step-ne0.false
 
-  less : max_entries - ((turn read).loop-next.entry-count + 1) < max_entries - (turn read).loop-next.entry-count
-  less = omega (arith, read.if-entry_count-ge-MAX_ENTRIES.left)
+  less : max_entries - ((turn read).loop-next.entry_count + 1) < max_entries - (turn read).loop-next.entry_count
+  less = omega (arith, read.if-entry_count-ge-MAX_ENTRIES.false)
 
 control-requires : tie.Need-control-found-requires invariant-loop decreases-loop
 control-requires c κs = (here c.before).inside
@@ -117,7 +117,7 @@ loop-again c =
     let r = read d in
     let l = turn r in
     let n = numbers-read _ _ _ (step r) (here d) c.if-step-eq5.true c.control-found.result c.control-found.ensures (bytes l) c.if-found-ne0.false in
-    animates _ _ (block l) _ l.loop-next.invariant r.loop-next-test.taken r.if-entry_count-ge-MAX_ENTRIES.left (bytes l) (step r) (here d) n.0 c.if-step-eq5.true n.1 c.control-found.result n.2
+    animates _ _ (block l) _ l.loop-next.invariant r.loop-next-test.true r.if-entry_count-ge-MAX_ENTRIES.false (bytes l) (step r) (here d) n.0 c.if-step-eq5.true n.1 c.control-found.result n.2
 
 loop-less-2 : tie.Need-loop-next-smaller invariant-loop decreases-loop
 loop-less-2 c = less c.before
@@ -127,7 +127,7 @@ loop-again-2 c =
     let r = read c.before in
     let l = turn r in
     let plain = plain-read _ _ _ (step r) (here c.before) c.if-step-eq5.false in
-    goes_on _ _ (block l) _ l.loop-next.invariant r.loop-next-test.taken r.if-entry_count-ge-MAX_ENTRIES.left (bytes l) (step r) (here c.before) plain c.if-step-eq5.false
+    goes_on _ _ (block l) _ l.loop-next.invariant r.loop-next-test.true r.if-entry_count-ge-MAX_ENTRIES.false (bytes l) (step r) (here c.before) plain c.if-step-eq5.false
 
 returns-5 : tie.Need-returns invariant-loop decreases-loop
 returns-5 c = ends _ _ (block c.before) _ c.loop-next.invariant c.loop-next-test.false ∙ ap block_answer (short c.before)

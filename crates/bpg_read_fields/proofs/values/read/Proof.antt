@@ -65,10 +65,10 @@ module _ (r : tie.After-read invariant-loop decreases-loop) where
   rest x = values_from bits (25 - (turn.loop-k.k + 1)) (set turn.loop-k.values turn.loop-k.k x.0) x.1
 
   more : turn.loop-k.k < 25
-  more = r.loop-k-test.taken
+  more = r.loop-k-test.true
 
   present : get_or turn.loop-k.values (get_or gates turn.loop-k.k 0) 0 ≡ 1
-  present = r.if-values-gate-ne1.left
+  present = r.if-values-gate-ne1.false
 
   whole : values_from bits 25 no_values start.args.at.0 ≡ (field >>= rest)
   whole = sym turn.loop-k.invariant.3 ∙ values-present bits turn.loop-k.values turn.loop-k.next turn.loop-k.k more present
@@ -117,8 +117,8 @@ loop-again-2 c =
     let e = value-outcome {m = field r} r.read.result r.read.ensures _ _ c.in-Value.is in
     let later = field-later (bits r) l.next (get_or widths l.k 0) _ (sym e) in (
       one_more l.k (more r),
-      before-next l.k l.values (more r) l.inv.1 _ (present r),
-      in-word-after (start r).args.region.now l.next l.word l.left l.inv.2 _ _ later c.remaining-left.ensures,
+      before-next l.k l.values (more r) l.invariant.1 _ (present r),
+      in-word-after (start r).args.region.now l.next l.word l.left l.invariant.2 _ _ later c.remaining-left.ensures,
       sym (whole r ∙ ap (λ (o : Outcome (ℕ × ℕ)). o >>= rest r) (sym e)),
     )
 
@@ -145,9 +145,9 @@ read_spec =
     loop-again
     (λ c. c.loop-k-test.true)
     read-requires
-    (λ c. c.in-Missing.keys1)
+    (λ c. search rules)
     returns
-    (λ c. c.in-Value.keys2)
+    (λ c. search rules)
     (λ c. record { fits = few_bytes _ (more c.before) })
     (λ c. inside _ (more c.before))
     sub-size

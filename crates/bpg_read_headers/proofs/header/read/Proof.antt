@@ -17,9 +17,9 @@ use Rattle.bpg_read_headers.proofs.header.read.Statement.{statement}
 use Rattle.bpg_read_headers.proofs.header.read.Tie as tie
 
 -- the header's length was read
-module _ (c : tie.After-known-told2) where
+module _ (c : tie.In-Value) where
   abbrev read : tie.After-read
-  read = c.before.before.before
+  read = c.before
 
   abbrev begin : tie.Start
   begin = read.before.before.before
@@ -34,16 +34,16 @@ module _ (c : tie.After-known-told2) where
   depth = begin.args.depth
 
   abbrev size : ℕ
-  size = c.before.size.given.0.0
+  size = c.in-Value.size
 
   abbrev start : ℕ
-  start = c.before.size.given.0.1.0.0
+  start = c.in-Value.start.0
 
   short : length file ≤ max_file
-  short = read.before.if1.left
+  short = read.if-file-gt-MAX_FILE.false
 
   size_is : (ue7 32).decode at at (drop at file) ≡ ok (decoded size start (drop start file))
-  size_is = value_read (ue7-advances 32) file at read.read.result read.read.ensures _ _ c.before.size.given.1
+  size_is = value_read (ue7-advances 32) file at read.read.result read.read.ensures _ _ c.in-Value.is
 
   inside : start ≤ length file
   inside = length-inside file depth at short size start size_is
@@ -52,50 +52,48 @@ module _ (c : tie.After-known-told2) where
   whole-size = omega arith
 
 -- and the header fits the file
-module _ (c : tie.Else2) where
-  abbrev sized-at : tie.After-known-told2
+module _ (c : tie.Else-file-start) where
+  abbrev sized-at : tie.In-Value
   sized-at = c.before.before
 
   enough : start sized-at + size sized-at ≤ length (file sized-at)
-  enough = omega (arith, c.if2.false, inside sized-at)
+  enough = omega (arith, c.if-file-start.false, inside sized-at)
 
   fits : length (take (start sized-at + size sized-at - 0) (file sized-at)) ≡ start sized-at + size sized-at
   fits =
       ap (λ (n : ℕ). length (take n (file sized-at))) (whole-size sized-at)
       ∙ length-take-le (start sized-at + size sized-at) (file sized-at) enough
 
-returns : tie.Need-returns
-returns c = c.refused.ensures ∙ file-long _ _ _ c.before.if1.true
+returns : tie.Need-returns-then-file-gt-MAX_FILE
+returns c = c.refused.ensures ∙ file-long _ _ _ c.if-file-gt-MAX_FILE.true
 
-sub-if2 : tie.Need-overflow-sub-if2
+sub-if2 : tie.Need-overflow_sub-file
 sub-if2 c = inside c.before
 
-returns-2 : tie.Need-returns-2
+returns-2 : tie.Need-returns-then-file-start
 returns-2 c =
     let k = c.before.before.before in
-    c.refused3.ensures ∙ too_large (file k) (depth k) (at k) (short k) (size k) (start k) (size_is k) (omega (arith, c.before.if2.true, inside k))
+    c.refused-then-file-start.ensures ∙ too_large (file k) (depth k) (at k) (short k) (size k) (start k) (size_is k) (omega (arith, c.if-file-start.true, inside k))
 
-part-with-size-end : tie.Need-slice-bounds-with-size-end
-part-with-size-end c = let k = c.before.before.before in omega (arith, c.before.if2.false, inside k)
+part-with-size-end : tie.Need-slice_bounds-with_size-end
+part-with-size-end c = omega (arith, c.if-file-start.false, inside c.before.before.before)
 
-with-size-requires : tie.Need-with-size-requires
+with-size-requires : tie.Need-with_size-requires
 with-size-requires c κs =
     let e = c.before.before in
     (omega (arith, fits e, enough e, short (sized-at e)), omega (arith, fits e))
 
-returns-3 : tie.Need-returns-3
+returns-3 : tie.Need-returns-in-Refused
 returns-3 c =
-    let r = c.before.before.before.before in
-    c.refused2.ensures
-    ∙ length-refused _ _ _ r.before.if1.false _ _ (refusal-read (ue7-advances 32) _ _ r.read.result r.read.ensures _ _ c.before.before.status.given.1)
+    c.refused-in-Refused.ensures
+    ∙ length-refused _ _ _ c.if-file-gt-MAX_FILE.false _ _ (refusal-read (ue7-advances 32) _ _ c.read.result c.read.ensures _ _ c.in-Refused.is)
 
-returns-4 : tie.Need-returns-4
+returns-4 : tie.Need-returns-else-file-start
 returns-4 c =
-    let e = c.before.before.before in
-    let k = e.before.before in
+    let k = c.before.before.before.before.before in
     c.with_size.ensures
     ∙ ap (λ (l : List ℕ). header_answer (fields_in l (depth k) (at k) (start k))) (ap (λ (n : ℕ). take n (file k)) (whole-size k))
-    ∙ sized (file k) (depth k) (at k) (short k) (size k) (start k) (size_is k) (enough e)
+    ∙ sized (file k) (depth k) (at k) (short k) (size k) (start k) (size_is k) (enough c.before.before.before)
 
 pub read_spec : {M : Type 1} → statement M
 read_spec =

@@ -7,7 +7,7 @@ use Rattle.bpg_read_headers.proofs.header.refused.Statement.{statement}
 use Rattle.bpg_read_headers.proofs.header.refused.Tie as tie
 
 returns : tie.Need-returns
-returns c = ap (λ (h : Header). record { status = c.before.args.status; offset = c.before.args.offset; header = h; next = byte_pos 0 }) c.zero-header.ensures
+returns c = ap (λ (h : Header). record { status = c.args.status; offset = c.args.offset; header = h; next = byte_pos 0 }) c.zero_header-header.ensures
 
-pub refused-spec : {M : Type 1} → statement M
-refused-spec = tie.close (tie.spec (λ c κs. search rules) returns)
+pub refused_spec : {M : Type 1} → statement M
+refused_spec = tie.close (tie.spec (λ c κs. search rules) returns)

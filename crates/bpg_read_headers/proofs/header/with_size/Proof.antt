@@ -16,66 +16,63 @@ use borrow.Author.Rules.{rules}
 use Rattle.bpg_read_headers.proofs.header.with_size.Statement.{statement}
 use Rattle.bpg_read_headers.proofs.header.with_size.Tie as tie
 
-module _ (c : tie.After-read) where
+module _ (c : tie.After-read-fields) where
   abbrev entered : tie.Start
   entered = c.before.before.before
 
   short : length entered.args.region.now ≤ max_file
-  short = entered.pre.0
+  short = entered.requires.0
 
-  fields-are : c.read.result ≡ fields_answer (decode_at (region_bits entered.args.region.now) header_fields 0 (8 * entered.args.start.0))
+  fields-are : c.read-fields.result ≡ fields_answer (decode_at (region_bits entered.args.region.now) header_fields 0 (8 * entered.args.start.0))
   fields-are =
-      let e : 8 * min entered.args.start.0 (2 ^ 60) ≡ 8 * entered.args.start.0 = omega (arith, short, entered.pre.1) in
-      c.read.ensures ∙ ap (λ (n : ℕ). fields_answer (decode_at (region_bits entered.args.region.now) header_fields 0 n)) (c.before.first_bit.ensures ∙ e)
+      let e : 8 * min entered.args.start.0 (2 ^ 60) ≡ 8 * entered.args.start.0 = omega (arith, short, entered.requires.1) in
+      c.read-fields.ensures ∙ ap (λ (n : ℕ). fields_answer (decode_at (region_bits entered.args.region.now) header_fields 0 n)) (c.first_bit.ensures ∙ e)
 
 -- the fields were read and padded
-module _ (c : tie.After-no-forbidden-bit) where
-  abbrev fields : tie.After-read
-  fields = c.before.before.before.before.before.before
+module _ (c : tie.After-no_forbidden_bit) where
+  abbrev fields : tie.After-read-fields
+  fields = c.before.before.before.before.before.before.before
 
-  is_found : fields.read.result.found ≡ true
-  is_found = not-false _ c.before.before.before.before.if1.false
+  is_found : fields.read-fields.result.found ≡ true
+  is_found = not-false _ c.if-not-fields.false
 
-  is-padded : is_padding (drop fields.read.result.next.0 (region_bits (entered fields).args.region.now)) ≡ true
-  is-padded = sym c.before.before.before.is-padding.ensures ∙ not-false _ c.before.before.if2.false
+  is-padded : is_padding (drop fields.read-fields.result.next.0 (region_bits (entered fields).args.region.now)) ≡ true
+  is-padded = sym c.is_padding.ensures ∙ c.if-not-is_padding.false
 
-returns : tie.Need-returns
+returns : tie.Need-returns-then-not-fields
 returns c =
     let r = c.before.before.before in
-    c.refused.ensures ∙ field-missing _ _ _ _ (short r) r.read.result (fields-are r) (not-true _ c.before.if1.true)
+    c.refused.ensures ∙ field-missing _ _ _ _ (short r) c.read-fields.result (fields-are r) (not-true _ c.if-not-fields.true)
 
-returns-2 : tie.Need-returns-2
+returns-2 : tie.Need-returns-then-not-is_padding
 returns-2 c =
-    let k = c.before.before in
-    let r = k.before.before.before in
-    c.refused2.ensures
-    ∙ not-padded _ _ _ _ (short r) r.read.result (fields-are r) (not-false _ k.before.if1.false)
-    (sym k.is-padding.ensures ∙ not-true _ c.before.if2.true)
+    let r = c.before.before.before.before.before.before in
+    c.refused-then-not-is_padding.ensures
+    ∙ not-padded _ _ _ _ (short r) c.read-fields.result (fields-are r) (not-false _ c.if-not-fields.false)
+    (sym c.is_padding.ensures ∙ c.if-not-is_padding.true)
 
-returns-3 : tie.Need-returns-3
+returns-3 : tie.Need-returns-then-not-no_forbidden_bit
 returns-3 c =
     let k = c.before.before in
-    c.refused3.ensures
-    ∙ forbidden _ _ _ _ (short (fields k)) (fields k).read.result (fields-are (fields k)) (is_found k) (is-padded k)
-    (sym k.no-forbidden-bit.ensures ∙ not-true _ c.before.if3.true)
+    c.refused-then-not-no_forbidden_bit.ensures
+    ∙ forbidden _ _ _ _ (short (fields k)) (fields k).read-fields.result (fields-are (fields k)) (is_found k) (is-padded k)
+    (sym c.no_forbidden_bit.ensures ∙ c.if-not-no_forbidden_bit.true)
 
-returns-4 : tie.Need-returns-4
+returns-4 : tie.Need-returns-then-not-allowed
 returns-4 c =
-    let a = c.before.before in
-    let k = a.before.before in
-    c.refused4.ensures
-    ∙ rule-broken _ _ _ _ (short (fields k)) (fields k).read.result (fields-are (fields k)) (is_found k) (is-padded k)
-    (sym k.no-forbidden-bit.ensures ∙ not-false _ a.before.if3.false) (sym a.allowed.ensures ∙ not-true _ c.before.if4.true)
+    let k = c.before.before.before.before in
+    c.refused-then-not-allowed.ensures
+    ∙ rule-broken _ _ _ _ (short (fields k)) (fields k).read-fields.result (fields-are (fields k)) (is_found k) (is-padded k)
+    (sym c.no_forbidden_bit.ensures ∙ c.if-not-no_forbidden_bit.false) (sym c.allowed.ensures ∙ c.if-not-allowed.true)
 
-returns-5 : tie.Need-returns-5
+returns-5 : tie.Need-returns
 returns-5 c =
-    let a = c.before in
-    let k = a.before.before in
-    header_read _ _ _ _ (short (fields k)) (fields k).read.result (fields-are (fields k)) (is_found k) (is-padded k)
-    (sym k.no-forbidden-bit.ensures ∙ not-false _ a.before.if3.false) (sym a.allowed.ensures ∙ not-false _ c.if4.false)
+    let k = c.before.before.before in
+    header_read _ _ _ _ (short (fields k)) (fields k).read-fields.result (fields-are (fields k)) (is_found k) (is-padded k)
+    (sym c.no_forbidden_bit.ensures ∙ c.if-not-no_forbidden_bit.false) (sym c.allowed.ensures ∙ c.if-not-allowed.false)
 
-pub with-size-spec : {M : Type 1} → statement M
-with-size-spec =
+pub with_size_spec : {M : Type 1} → statement M
+with_size_spec =
     tie.close
     (tie.spec
     (λ c κs. search rules)

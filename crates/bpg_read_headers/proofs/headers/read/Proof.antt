@@ -5,23 +5,18 @@ use borrow.Author.Rules.{rules}
 use Rattle.bpg_read_headers.proofs.headers.read.Statement.{statement}
 use Rattle.bpg_read_headers.proofs.headers.read.Tie as tie
 
-returns : tie.Need-returns
+returns : tie.Need-returns-then-first-ne0
 returns c =
-    let a = c.before.before.before in
-    c.refused.ensures ∙ alpha-refused _ _ _ _ a.alpha-header.result a.alpha-header.ensures c.before.if1.true
+    c.refused.ensures ∙ alpha-refused _ _ _ _ c.alpha_header-first.result c.alpha_header-first.ensures c.if-first-ne0.true
 
-returns-2 : tie.Need-returns-2
+returns-2 : tie.Need-returns-then-second-ne0
 returns-2 c =
-    let t = c.before.before.before in
-    let a = t.before.before.before in
-    c.refused2.ensures
-    ∙ color-refused _ _ _ _ a.alpha-header.result a.alpha-header.ensures t.before.if1.false t.read.result t.read.ensures c.before.if2.true
+    c.refused-then-second-ne0.ensures
+    ∙ color-refused _ _ _ _ c.alpha_header-first.result c.alpha_header-first.ensures c.if-first-ne0.false c.read-second.result c.read-second.ensures c.if-second-ne0.true
 
-returns-3 : tie.Need-returns-3
+returns-3 : tie.Need-returns
 returns-3 c =
-    let t = c.before.before.before.before.before in
-    let a = t.before.before.before in
-    both_read _ _ _ _ a.alpha-header.result a.alpha-header.ensures t.before.if1.false t.read.result t.read.ensures c.before.before.before.if2.false
+    both_read _ _ _ _ c.alpha_header-first.result c.alpha_header-first.ensures c.if-first-ne0.false c.read-second.result c.read-second.ensures c.if-second-ne0.false
 
 pub read_spec : {M : Type 1} → statement M
 read_spec =

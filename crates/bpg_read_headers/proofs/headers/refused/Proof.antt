@@ -8,7 +8,7 @@ use Rattle.bpg_read_headers.proofs.headers.refused.Tie as tie
 
 returns : tie.Need-returns
 returns c =
-    ap (λ (h : Header). record { status = c.before.args.status; offset = c.before.args.offset; alpha = h; color = h; next = byte_pos 0 }) c.zero-header.ensures
+    ap (λ (h : Header). record { status = c.args.status; offset = c.args.offset; alpha = h; color = h; next = byte_pos 0 }) c.zero_header-header.ensures
 
-pub refused-spec : {M : Type 1} → statement M
-refused-spec = tie.close (tie.spec (λ c κs. search rules) returns)
+pub refused_spec : {M : Type 1} → statement M
+refused_spec = tie.close (tie.spec (λ c κs. search rules) returns)

@@ -14,55 +14,57 @@ use Rattle.bpg_read_headers.proofs.trailing.is_padding.Statement.{statement}
 use Rattle.bpg_read_headers.proofs.trailing.is_padding.Tie as tie
 
 -- the bits are counted
-module _ (c : tie.After-count) where
+module _ (c : tie.After-count-end) where
   abbrev region : List ℕ
-  region = c.before.before.args.region.now
+  region = c.args.region.now
 
   abbrev at : ℕ
-  at = c.before.before.args.at.0
+  at = c.args.at.0
 
-  counted : c.count.result ≡ length (region_bits region)
-  counted = c.count.ensures
+  counted : c.count-end.result ≡ length (region_bits region)
+  counted = c.count-end.ensures
 
 -- and there are fewer than eight
-module _ (c : tie.After-shared-slice-known2) where
-  abbrev start : tie.After-count
+module _ (c : tie.After-shared_slice_known-2-1) where
+  abbrev start : tie.After-count-end
   start = c.before.before.before.before
 
   abbrev left : ℕ
-  left = start.count.result - at start
+  left = start.count-end.result - at start
 
   some : 0 < left
-  some = omega (arith, c.before.before.before.if1.false)
+  some = omega (arith, c.if-end-start.false)
 
   few : left < 8
-  few = omega (arith, c.before.before.if2.false)
+  few = omega (arith, c.if-left-ge8.false)
 
   shifted : (1 * 2 ^ left) % 2 ^ 8 ≡ 2 ^ left
   shifted = one_shifted left 8 few
 
-returns : tie.Need-returns
-returns c = let k = c.before in none_left (region_bits (region k)) (at k) (omega (arith, c.if1.true, counted k))
+returns : tie.Need-returns-then-end-start
+returns c = none_left (region_bits (region c.before)) (at c.before) (omega (arith, c.if-end-start.true, counted c.before))
 
-returns-2 : tie.Need-returns-2
-returns-2 c = let k = c.before.before in many-left (region_bits (region k)) (at k) (omega (arith, c.if2.true, counted k))
+returns-2 : tie.Need-returns-then-left-ge8
+returns-2 c =
+    let k = c.before.before in
+    many-left (region_bits (region k)) (at k) (omega (arith, c.if-left-ge8.true, counted k))
 
-shared-slice-read-result : tie.Need-shared-slice-read-result
+shared-slice-read-result : tie.Need-bounds-region-byte
 shared-slice-read-result c =
     let l = region (start c) in
-    omega (arith, some c, counted (start c), c.before.byte_of.ensures, length-unpack (take (2 ^ 60) l), length-take (2 ^ 60) l)
+    omega (arith, some c, counted (start c), c.byte_of-byte.ensures, length-unpack (take (2 ^ 60) l), length-take (2 ^ 60) l)
 
-rem-result : tie.Need-nonzero-rem-result
+rem-result : tie.Need-nonzero_rem-result
 rem-result c = rw (shifted c) (pow_pos (left c))
 
-returns-3 : tie.Need-returns-3
+returns-3 : tie.Need-returns
 returns-3 c =
     let l = region (start c) in
     rw (shifted c)
-    (decided l (at (start c)) (left c) _ (omega (arith, counted (start c))) (some c) (few c) (ap (λ (k : ℕ). get_or l k 0) c.before.byte_of.ensures))
+    (decided l (at (start c)) (left c) _ (omega (arith, counted (start c))) (some c) (few c) (ap (λ (k : ℕ). get_or l k 0) c.byte_of-byte.ensures))
 
-pub is-padding-spec : {M : Type 1} → statement M
-is-padding-spec =
+pub is_padding_spec : {M : Type 1} → statement M
+is_padding_spec =
     tie.close
     (tie.spec
     (λ c κs. search rules)

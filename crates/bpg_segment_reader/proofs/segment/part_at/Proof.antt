@@ -16,7 +16,7 @@ module _ (e : tie.Else-field-size) where
 
   room : start.args.at + 2 + e.field_at-field.result ≤ length start.args.run.now
   room =
-      let f = answered start.args.run.now start.args.at start.args.marker e.field_at-field.result e.field_at-field.ensures (omega (arith, e.if-field-size.left)) in
+      let f = answered start.args.run.now start.args.at start.args.marker e.field_at-field.result e.field_at-field.ensures (omega (arith, e.if-field-size.false)) in
       omega (arith, f.2, length-drop start.args.at start.args.run.now)
 
 returns : tie.Need-returns-then-field-size

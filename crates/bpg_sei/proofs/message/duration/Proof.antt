@@ -13,20 +13,20 @@ returns-2 : tie.Need-returns-then-not-high
 returns-2 c =
     let a = c.args in
     duration-none _ _ _ _ c.cut_short-then-not-high.ensures
-    (no-high a.unit.now a.cursor _ c.if-size-ne2.false _ c.next-high.ensures (c.if-not-high.true))
+    (no-high a.unit.now a.cursor _ c.if-size-ne2.false _ c.next-high.ensures (not-true _ c.if-not-high.true))
 
 returns-3 : tie.Need-returns-then-not-low
 returns-3 c =
     let a = c.args in
     duration-none _ _ _ _ c.cut_short-then-not-low.ensures
-    (no-low a.unit.now a.cursor _ c.if-size-ne2.false _ c.next-high.ensures (c.if-not-high.false) _ c.next-low.ensures
-    (c.if-not-low.true))
+    (no-low a.unit.now a.cursor _ c.if-size-ne2.false _ c.next-high.ensures (not-false _ c.if-not-high.false) _ c.next-low.ensures
+    (not-true _ c.if-not-low.true))
 
 returns-4 : tie.Need-returns
 returns-4 c =
     let a = c.args in
-    a-duration a.unit.now a.cursor _ c.if-size-ne2.false _ c.next-high.ensures (c.if-not-high.false) _ c.next-low.ensures
-    (c.if-not-low.false)
+    a-duration a.unit.now a.cursor _ c.if-size-ne2.false _ c.next-high.ensures (not-false _ c.if-not-high.false) _ c.next-low.ensures
+    (not-false _ c.if-not-low.false)
 
 pub duration_spec : {M : Type 1} → statement M
 duration_spec =

@@ -15,32 +15,32 @@ small c = omega arith
 returns : tie.Need-returns-then-not-kind
 returns c =
     let a = c.args in
-    message-none _ _ _ c.cut_short.ensures (no-type a.unit.now a.cursor _ c.read-kind.ensures (c.if-not-kind.true))
+    message-none _ _ _ c.cut_short.ensures (no-type a.unit.now a.cursor _ c.read-kind.ensures (not-true _ c.if-not-kind.true))
 
 returns-2 : tie.Need-returns-then-not-size
 returns-2 c =
     let a = c.args in
     message-none _ _ _ c.cut_short-then-not-size.ensures
-    (no_size a.unit.now a.cursor _ c.read-kind.ensures (c.if-not-kind.false) _ c.read-size.ensures (c.if-not-size.true))
+    (no_size a.unit.now a.cursor _ c.read-kind.ensures (not-false _ c.if-not-kind.false) _ c.read-size.ensures (not-true _ c.if-not-size.true))
 
 returns-3 : tie.Need-returns-then-kind-eq-FRAME_DURATION
 returns-3 c =
     let a = c.args in
-    timed-message a.unit.now a.cursor _ c.read-kind.ensures (c.if-not-kind.false) _ c.read-size.ensures (c.if-not-size.false)
+    timed-message a.unit.now a.cursor _ c.read-kind.ensures (not-false _ c.if-not-kind.false) _ c.read-size.ensures (not-false _ c.if-not-size.false)
     (small c.before.before.before.before.before.before.before.before.before.before.before.before) c.if-kind-eq-FRAME_DURATION.true _ c.duration.ensures
 
 returns-4 : tie.Need-returns-then-not-past
 returns-4 c =
     let a = c.args in
     message-none _ _ _ c.cut_short-then-not-past.ensures
-    (no_payload a.unit.now a.cursor _ c.read-kind.ensures (c.if-not-kind.false) _ c.read-size.ensures (c.if-not-size.false)
-    (small c.before.before.before.before.before.before.before.before.before.before.before.before.before.before.before) c.if-kind-eq-FRAME_DURATION.false _ c.skip-past.ensures (c.if-not-past.true))
+    (no_payload a.unit.now a.cursor _ c.read-kind.ensures (not-false _ c.if-not-kind.false) _ c.read-size.ensures (not-false _ c.if-not-size.false)
+    (small c.before.before.before.before.before.before.before.before.before.before.before.before.before.before.before) c.if-kind-eq-FRAME_DURATION.false _ c.skip-past.ensures (not-true _ c.if-not-past.true))
 
 returns-5 : tie.Need-returns
 returns-5 c =
     let a = c.args in
-    plain-message a.unit.now a.cursor _ c.read-kind.ensures (c.if-not-kind.false) _ c.read-size.ensures (c.if-not-size.false)
-    (small c.before.before.before.before.before.before.before.before.before.before.before.before.before.before.before) c.if-kind-eq-FRAME_DURATION.false _ c.skip-past.ensures (c.if-not-past.false)
+    plain-message a.unit.now a.cursor _ c.read-kind.ensures (not-false _ c.if-not-kind.false) _ c.read-size.ensures (not-false _ c.if-not-size.false)
+    (small c.before.before.before.before.before.before.before.before.before.before.before.before.before.before.before) c.if-kind-eq-FRAME_DURATION.false _ c.skip-past.ensures (not-false _ c.if-not-past.false)
 
 pub read_spec : {M : Type 1} → statement M
 read_spec =

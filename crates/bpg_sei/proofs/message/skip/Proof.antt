@@ -14,11 +14,11 @@ abbrev decreases-loop : tie.decreases-loop-left
 decreases-loop unit cursor count left₀ at₀ left at = left
 
 returns : tie.Need-returns-then-not-step invariant-loop decreases-loop
-returns c = skip-none c.loop-left.invariant _ c.next-step.ensures c.loop-left-test.true (c.if-not-step.true) _ refl
+returns c = skip-none c.loop-left.invariant _ c.next-step.ensures c.loop-left-test.true (not-true _ c.if-not-step.true) _ refl
 
 loop-again : tie.Need-loop-left-preserved invariant-loop decreases-loop
 loop-again c =
-    skip-on c.loop-left.invariant _ c.next-step.ensures c.loop-left-test.true (c.if-not-step.false)
+    skip-on c.loop-left.invariant _ c.next-step.ensures c.loop-left-test.true (not-false _ c.if-not-step.false)
 
 pub skip_spec : {M : Type 1} → statement M
 skip_spec =

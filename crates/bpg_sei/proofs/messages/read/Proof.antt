@@ -20,19 +20,19 @@ decreases-loop unit sei₀ cursor₀ sei cursor = length unit - cursor.at.0
 
 onward : (c : tie.Else-not-message invariant-loop decreases-loop)
     → Onward c.args.unit.now c.loop-sei.cursor c.read-message.result.next
-onward c = (c.read-message.ensures.found (c.if-not-message.false)).1
+onward c = (c.read-message.ensures.found (not-false _ c.if-not-message.false)).1
 
 returns : tie.Need-returns-then-not-message invariant-loop decreases-loop
-returns c = all-cut c.loop-sei.invariant _ c.read-message.ensures (c.if-not-message.true)
+returns c = all-cut c.loop-sei.invariant _ c.read-message.ensures (not-true _ c.if-not-message.true)
 
 returns-2 : tie.Need-returns-then-ends_here invariant-loop decreases-loop
 returns-2 c =
-    all-heard c.loop-sei.invariant _ c.read-message.ensures (c.if-not-message.false) _ c.hear-sei.ensures
+    all-heard c.loop-sei.invariant _ c.read-message.ensures (not-false _ c.if-not-message.false) _ c.hear-sei.ensures
     (sym c.ends_here.ensures ∙ c.if-ends_here.true)
 
 loop-again : tie.Need-loop-sei-preserved invariant-loop decreases-loop
 loop-again c =
-    more-heard c.loop-sei.invariant _ c.read-message.ensures (c.if-not-message.false) _ c.hear-sei.ensures
+    more-heard c.loop-sei.invariant _ c.read-message.ensures (not-false _ c.if-not-message.false) _ c.hear-sei.ensures
     (sym c.ends_here.ensures ∙ c.if-ends_here.false)
 
 pub read_spec : {M : Type 1} → statement M

@@ -17,19 +17,19 @@ abbrev decreases-loop : tie.decreases-loop-step
 decreases-loop unit cursor value₀ at₀ value at = length unit - at.at.0
 
 returns : tie.Need-returns-then-not-step invariant-loop decreases-loop
-returns c = sum-none c.loop-step.invariant.1 _ c.next-step.ensures (c.if-not-step.true) _ refl
+returns c = sum-none c.loop-step.invariant.1 _ c.next-step.ensures (not-true _ c.if-not-step.true) _ refl
 
 -- a byte more is there
 onward : (c : tie.Else-not-step invariant-loop decreases-loop) → Onward c.args.unit.now c.loop-step.at c.next-step.result.next
-onward c = (c.next-step.ensures.found (c.if-not-step.false)).1
+onward c = (c.next-step.ensures.found (not-false _ c.if-not-step.false)).1
 
 returns-2 : tie.Need-returns-then-byte invariant-loop decreases-loop
 returns-2 c =
-    sum-found c.loop-step.invariant.1 _ c.next-step.ensures (c.if-not-step.false) _ c.least-value.ensures c.if-byte.true
+    sum-found c.loop-step.invariant.1 _ c.next-step.ensures (not-false _ c.if-not-step.false) _ c.least-value.ensures c.if-byte.true
 
 loop-again : tie.Need-loop-step-preserved invariant-loop decreases-loop
 loop-again c =
-    (omega arith, sum-on c.loop-step.invariant.1 _ c.next-step.ensures (c.if-not-step.false) _ c.least-value.ensures c.if-byte.false)
+    (omega arith, sum-on c.loop-step.invariant.1 _ c.next-step.ensures (not-false _ c.if-not-step.false) _ c.least-value.ensures c.if-byte.false)
 
 pub read_spec : {M : Type 1} → statement M
 read_spec =

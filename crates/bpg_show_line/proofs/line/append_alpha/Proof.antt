@@ -27,15 +27,11 @@ pub append_alpha_spec : {M : Type 1} → statement M
 append_alpha_spec =
     tie.close
     (tie.spec
-    (λ c. search rules)
     (λ c κs. search rules)
     returns
-    (λ c. search rules)
     (λ c κs. search rules)
     returns-2
-    (λ c. search rules)
     (λ c κs. search rules)
     returns-3
-    (λ c. search rules)
     (λ c κs. search rules)
     returns-4)

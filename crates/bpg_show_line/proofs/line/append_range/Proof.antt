@@ -19,9 +19,7 @@ pub append_range_spec : {M : Type 1} → statement M
 append_range_spec =
     tie.close
     (tie.spec
-    (λ c. search rules)
     (λ c κs. search rules)
     returns
-    (λ c. search rules)
     (λ c κs. search rules)
     returns-2)

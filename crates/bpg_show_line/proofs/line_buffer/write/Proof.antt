@@ -1,7 +1,7 @@
 -- `line_buffer::write` meets its contract.
-use mathlib.Core.Path.{◌≡◌, sym, ◌∙◌}
+use mathlib.Core.Path.{◌≡◌, sym}
 use native.Mathlib.Omega.{arith}
-use lib.ListN.{length, length-map}
+use lib.ListN.{length}
 use lib.Seq.{length-take-le}
 use borrow.Author.Rules.{rules}
 use Rattle.bpg_show_line.specs.LineBuffer.{line_size}
@@ -10,7 +10,7 @@ use Rattle.bpg_show_line.proofs.line_buffer.write.Tie as tie
 
 -- the array has 160 bytes
 size : (c : tie.Start) → length c.args.line.bytes ≡ line_size
-size c = sym (length-map c.args.line.bytes (λ v. v)) ∙ c.well-formed.0.1.1.0.1.0.1
+size c = c.well_formed.0.1.1.0.1.0.1
 
 array-share-prefix-bytes : tie.Need-slice_bounds-bytes-end
 array-share-prefix-bytes c = omega (arith, size c.before.before.before)

@@ -7,12 +7,12 @@ use borrow.Author.Rules.{rules}
 use Rattle.bpg_unpremultiply.proofs.pixel.reciprocal.Statement.{statement}
 use Rattle.bpg_unpremultiply.proofs.pixel.reciprocal.Tie as tie
 
-pub reciprocal-spec : {M : Type 1} → statement M
-reciprocal-spec =
+pub reciprocal_spec : {M : Type 1} → statement M
+reciprocal_spec =
     tie.close
     (tie.spec
     (λ c κs. search rules)
     (λ c. search rules)
     (λ c. search rules)
-    (λ c. omega (arith, div-le_self (2 ^ 44) c.larger.result))
-    (λ c. ap (λ (n : ℕ). 2 ^ 44 / n + 1) c.larger.ensures))
+    (λ c. omega (arith, div-le_self (2 ^ 44) c.larger-divisor.result))
+    (λ c. ap (λ (n : ℕ). 2 ^ 44 / n + 1) c.larger-divisor.ensures))

@@ -10,42 +10,41 @@ use Rattle.bpg_unpremultiply.proofs.Reciprocals.{dividend-high, product_high, sh
 use Rattle.bpg_unpremultiply.proofs.pixel.unpremultiply_sample.Statement.{statement}
 use Rattle.bpg_unpremultiply.proofs.pixel.unpremultiply_sample.Tie as tie
 
-module _ (c : tie.After-half-of) where
+module _ (c : tie.After-half_of-half) where
   abbrev colour : ℕ
-  colour = c.before.before.args.colour
+  colour = c.args.colour
 
   abbrev alpha : ℕ
-  alpha = c.before.before.args.a
+  alpha = c.args.a
 
   abbrev m : ℕ
-  m = c.before.before.args.m
+  m = c.args.m
 
-  divided : c.before.smaller.result * m + c.half_of_lem.result ≡ dividend m colour alpha
-  divided = ap₂ (λ (n h : ℕ). n * m + h) c.before.smaller.ensures c.half_of_lem.ensures
+  divided : c.smaller-least.result * m + c.half_of_lem.result ≡ dividend m colour alpha
+  divided = ap₂ (λ (n h : ℕ). n * m + h) c.smaller-least.ensures c.half_of_lem.ensures
 
   below : dividend m colour alpha ≤ 16383 * 16384
   below = dividend-high m colour alpha (omega arith) (omega arith)
 
-  product : (c.before.smaller.result * m + c.half_of_lem.result) * c.before.before.args.reciprocal ≡ dividend m colour alpha * reciprocal_of alpha
-  product = ap₂ (λ (n v : ℕ). n * v) divided c.before.before.requires.2
+  product : (c.smaller-least.result * m + c.half_of_lem.result) * c.args.reciprocal ≡ dividend m colour alpha * reciprocal_of alpha
+  product = ap₂ (λ (n v : ℕ). n * v) divided c.requires.2
 
-found : (c : tie.Else1) → (c.before.before.smaller.result * m c.before + c.before.half_of_lem.result) * c.before.before.before.args.reciprocal / 2 ^ 44
+found : (c : tie.Else-a-eq0) → (c.smaller-least.result * m c.before + c.half_of_lem.result) * c.args.reciprocal / 2 ^ 44
     ≡ unpremultiplied (m c.before) (colour c.before) (alpha c.before)
 found c = ap (λ (n : ℕ). n / 2 ^ 44) (product c.before) ∙ shifted _ _ _ (omega arith) (omega arith) (omega arith)
 
-mul-q : tie.Need-overflow-mul-q
+mul-q : tie.Need-overflow_mul-q
 mul-q c = omega (arith, product c, product_high (m c) (colour c) (alpha c) (omega arith) (omega arith))
 
-returns : tie.Need-returns
-returns c = let b = c.before in sym (ap (unpremultiplied (m b) (colour b)) c.if1.true ∙ transparent (m b) (colour b))
+returns : tie.Need-returns-then-a-eq0
+returns c = sym (ap (unpremultiplied (m c.before) (colour c.before)) c.if-a-eq0.true ∙ transparent (m c.before) (colour c.before))
 
-cast-result : tie.Need-overflow-cast-result
+cast-result : tie.Need-overflow_cast-result
 cast-result c =
-    let b = c.before in
-    omega (arith, found c, quotient (m b) (colour b) (alpha b) (omega arith), quotient-high (m b) (colour b) (alpha b) (omega arith))
+    omega (arith, found c, quotient (m c.before) (colour c.before) (alpha c.before) (omega arith), quotient-high (m c.before) (colour c.before) (alpha c.before) (omega arith))
 
-pub unpremultiply-sample-spec : {M : Type 1} → statement M
-unpremultiply-sample-spec =
+pub unpremultiply_sample_spec : {M : Type 1} → statement M
+unpremultiply_sample_spec =
     tie.close
     (tie.spec
     (λ c κs. search rules)

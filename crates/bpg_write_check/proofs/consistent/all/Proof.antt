@@ -12,17 +12,17 @@ use Rattle.bpg_write_check.proofs.consistent.all.Statement.{statement}
 use Rattle.bpg_write_check.proofs.consistent.all.Tie as tie
 
 -- the lengths of the arrays
-entries-length : (c : tie.Start) → length c.args.t1.entries ≡ max_entries
+entries-length : (c : tie.Start) → length c.args.«record».entries ≡ max_entries
 entries-length c = search entries-count
 
-two : (c : tie.Start) → length c.args.t1.headers ≡ 2
+two : (c : tie.Start) → length c.args.«record».headers ≡ 2
 two c = search headers-count
 
 returns : tie.Need-returns
 unfolding consistent content_of
 returns c =
     let start = c.before.before.before.before.before.before.before.before.before in
-    let r = c.args.t1 in
+    let r = c.args.«record» in
     λ source.
     rw (
       none-used source r.entries r.entry_count (entries-length start),

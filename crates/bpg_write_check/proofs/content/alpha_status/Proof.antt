@@ -14,7 +14,7 @@ use Rattle.bpg_write_check.proofs.content.alpha_status.Statement.{statement}
 use Rattle.bpg_write_check.proofs.content.alpha_status.Tie as tie
 
 -- the array has two headers
-two : (c : tie.Start) → length c.args.t1.headers ≡ 2
+two : (c : tie.Start) → length c.args.«record».headers ≡ 2
 two c = search headers-count
 
 returns : tie.Need-returns-then-not-has_alpha
@@ -23,7 +23,7 @@ returns c = no-alpha _ _ (sym c.has_alpha.ensures ∙ c.if-not-has_alpha.true)
 returns-2 : tie.Need-returns
 returns-2 c =
     alpha-decides _ _ _ (sym c.has_alpha.ensures ∙ c.if-not-has_alpha.false)
-    (c.status.ensures ∙ ap (λ (h : Header). status_of (check_header c.args.depth h)) (header_at _ c.args.t1.headers 0 (two c.before.before.before.before) (omega arith)))
+    (c.status.ensures ∙ ap (λ (h : Header). status_of (check_header c.args.depth h)) (header_at _ c.args.«record».headers 0 (two c.before.before.before.before) (omega arith)))
 
 pub alpha_status_spec : {M : Type 1} → statement M
 alpha_status_spec =

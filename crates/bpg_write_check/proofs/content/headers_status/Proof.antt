@@ -17,12 +17,12 @@ use Rattle.bpg_write_check.proofs.content.headers_status.Statement.{statement}
 use Rattle.bpg_write_check.proofs.content.headers_status.Tie as tie
 
 -- the array has two headers
-two : (c : tie.Start) → length c.args.t1.headers ≡ 2
+two : (c : tie.Start) → length c.args.«record».headers ≡ 2
 two c = search headers-count
 
 -- the test of the animation flag is refusal 14's
-tested : (c : tie.After-has_control) (source : List ℕ) → controlled c.args.t1 source ≡ (not c.args.t1.animation_flag || c.has_control.result)
-tested c source = sym (ap (λ (b : Bool). not c.args.t1.animation_flag || b) (c.has_control.ensures source))
+tested : (c : tie.After-has_control) (source : List ℕ) → controlled c.args.«record» source ≡ (not c.args.«record».animation_flag || c.has_control.result)
+tested c source = sym (ap (λ (b : Bool). not c.args.«record».animation_flag || b) (c.has_control.ensures source))
 
 returns : tie.Need-returns-then-not-controlled
 returns c = λ source. control-missing _ source (tested c.before source ∙ c.if-not-controlled.true)
@@ -36,7 +36,7 @@ returns-3 c =
     λ source.
     color-decides _ source (tested c.before.before.before.before.before source ∙ c.if-not-controlled.false) _ c.alpha_status-number.ensures _ c.if-number-ne0.false
     (c.status.ensures
-    ∙ ap (λ (h : Header). status_of (check_header (depth c.args.t1 source) h)) (header_at _ c.args.t1.headers 1 (two c.before.before.before.before.before.before) (omega arith)))
+    ∙ ap (λ (h : Header). status_of (check_header (depth c.args.«record» source) h)) (header_at _ c.args.«record».headers 1 (two c.before.before.before.before.before.before) (omega arith)))
 
 pub headers_status_spec : {M : Type 1} → statement M
 headers_status_spec =

@@ -6,11 +6,11 @@ use Rattle.bpg_write_header.proofs.fields.add_pcm.Statement.{statement}
 use Rattle.bpg_write_header.proofs.fields.add_pcm.Tie as tie
 
 returns : tie.Need-returns-then-not-h
-returns c = left_out _ (c.if-not-h.true)
+returns c = left_out _ (not-true _ c.if-not-h.true)
 
 returns-2 : tie.Need-returns
 returns-2 c =
-    put_in (c.if-not-h.false)
+    put_in (not-false _ c.if-not-h.false)
     (added_then (added c.append-luma.ensures)
     (added_then (added c.append-chroma.ensures)
     (added_then (added c.append_exp_golomb-least.ensures)

@@ -21,7 +21,7 @@ abbrev decreases-loop : tie.decreases-loop-k
 decreases-loop h all₀ k₀ all k = 9 - k
 
 -- the array has nine flags
-nine : (c : tie.Start invariant-loop decreases-loop) → length c.args.t2.range_flags ≡ 9
+nine : (c : tie.Start invariant-loop decreases-loop) → length c.args.h.range_flags ≡ 9
 nine c = search flags-count
 
 -- one flag more
@@ -35,12 +35,12 @@ loop-holds c = (omega arith, added-nothing _)
 loop-again : tie.Need-loop-k-preserved invariant-loop decreases-loop
 loop-again c =
     let l = c.loop-k in
-    (omega arith, more c.args.t2.range_flags l.k (omega (arith, nine c.before.before.before.before)) l.invariant.1 c.add_flag-all.ensures)
+    (omega arith, more c.args.h.range_flags l.k (omega (arith, nine c.before.before.before.before)) l.invariant.1 c.add_flag-all.ensures)
 
 returns : tie.Need-returns invariant-loop decreases-loop
 returns c =
     let l = c.loop-k in
-    rw (take_all l.k c.args.t2.range_flags (omega (arith, nine c.before.before))) at l.invariant.1
+    rw (take_all l.k c.args.h.range_flags (omega (arith, nine c.before.before))) at l.invariant.1
 
 pub add_all_spec : {M : Type 1} → statement M
 add_all_spec =

@@ -9,17 +9,17 @@ use Rattle.bpg_write_plan.proofs.layout.extension_size.Statement.{statement}
 use Rattle.bpg_write_plan.proofs.layout.extension_size.Tie as tie
 
 few : (c : tie.After-size) → c.size.result ≤ 10
-few c = omega (arith, c.size.ensures, size-most c.before.before.args.block (omega (arith, c.before.before.requires)))
+few c = omega (arith, c.size.ensures, size-most c.args.block (omega (arith, c.requires)))
 
-add-result : tie.Need-overflow-add-result
-add-result c = omega (arith, few c, c.before.before.requires)
+add-result : tie.Need-overflow_add-result
+add-result c = omega (arith, few c, c.requires)
 
-returns : tie.Need-returns
+returns : tie.Need-returns-then-present
 returns c =
-    (ap (λ (n : ℕ). n + c.before.before.args.block) c.size.ensures ∙ sym (select-true _ _ c.before.if1.true), omega (arith, few c, c.before.before.requires))
+    (ap (λ (n : ℕ). n + c.args.block) c.size.ensures ∙ sym (select-true _ _ c.if-present.true), omega (arith, few c, c.requires))
 
-returns-2 : tie.Need-returns-2
-returns-2 c = (sym (select-false _ _ c.if1.false), omega arith)
+returns-2 : tie.Need-returns
+returns-2 c = (sym (select-false _ _ c.if-present.false), omega arith)
 
-pub extension-size-spec : {M : Type 1} → statement M
-extension-size-spec = tie.close (tie.spec (λ c κs. search rules) add-result returns returns-2)
+pub extension_size_spec : {M : Type 1} → statement M
+extension_size_spec = tie.close (tie.spec (λ c κs. search rules) add-result returns returns-2)

@@ -16,13 +16,13 @@ use Rattle.bpg_write_plan.proofs.plan.encoded.Tie as tie
 absent : {t : Bool} {h : Header} {b : BitBuffer} → t ≡ false → Encoded t h b
 absent e = record { is = λ there. absurd (true≢false (sym there ∙ e)); short = λ there. absurd (true≢false (sym there ∙ e)) }
 
-returns : tie.Need-returns
-returns c = (omega (arith, ap (λ (b : BitBuffer). b.len.0) c.empty.ensures), absent (not-true _ c.before.if1.true))
+returns : tie.Need-returns-then-not-present
+returns c = (omega (arith, ap (λ (b : BitBuffer). b.len.0) c.empty.ensures), absent (c.if-not-present.true))
 
-returns-2 : tie.Need-returns-2
+returns-2 : tie.Need-returns
 returns-2 c =
     let e = c.encode.ensures in
-    (omega (arith, ap (λ (b : BitBuffer). b.len.0) e.0, gathered-most (header_bits c.before.before.args.header)), record { is = λ there. e.0; short = λ there. e.1 })
+    (omega (arith, ap (λ (b : BitBuffer). b.len.0) e.0, gathered-most (header_bits c.args.header)), record { is = λ there. e.0; short = λ there. e.1 })
 
-pub encoded-spec : {M : Type 1} → statement M
-encoded-spec = tie.close (tie.spec (λ c κs. search rules) returns (λ c κs. search rules) returns-2)
+pub encoded_spec : {M : Type 1} → statement M
+encoded_spec = tie.close (tie.spec (λ c κs. search rules) returns (λ c κs. search rules) returns-2)

@@ -15,47 +15,45 @@ use Rattle.bpg_write_plan.proofs.plan.prepare.Statement.{statement}
 use Rattle.bpg_write_plan.proofs.plan.prepare.Tie as tie
 
 -- the headers were encoded
-module _ (c : tie.After-encoded2) where
-  abbrev begun : tie.Else1
+module _ (c : tie.After-encoded-color) where
+  abbrev begun : tie.Else-status-ne0
   begun = c.before.before.before.before.before
 
   abbrev r : Record
-  r = begun.before.before.before.args.t1
+  r = begun.args.«record»
 
   two : length r.headers ≡ 2
   two = search headers-count
 
-  alpha-encoded : Encoded (r.alpha1_flag || r.alpha2_flag) (get_or r.headers 0 zero_header) c.before.encoded.result
+  alpha-encoded : Encoded (r.alpha1_flag || r.alpha2_flag) (get_or r.headers 0 zero_header) c.encoded-alpha.result
   alpha-encoded =
-      subst (λ (t : Bool). Encoded t (get_or r.headers 0 zero_header) c.before.encoded.result) c.before.before.has-alpha.ensures
-      (subst (λ (h : Header). Encoded c.before.before.has-alpha.result h c.before.encoded.result) (header_at _ r.headers 0 two (omega arith)) c.before.encoded.ensures.1)
+      subst (λ (t : Bool). Encoded t (get_or r.headers 0 zero_header) c.encoded-alpha.result) c.has_alpha-plane.ensures
+      (subst (λ (h : Header). Encoded c.has_alpha-plane.result h c.encoded-alpha.result) (header_at _ r.headers 0 two (omega arith)) c.encoded-alpha.ensures.1)
 
-  color-encoded : Encoded true (get_or r.headers 1 zero_header) c.encoded2.result
-  color-encoded = subst (λ (h : Header). Encoded true h c.encoded2.result) (header_at _ r.headers 1 two (omega arith)) c.encoded2.ensures.1
+  color-encoded : Encoded true (get_or r.headers 1 zero_header) c.encoded-color.result
+  color-encoded = subst (λ (h : Header). Encoded true h c.encoded-color.result) (header_at _ r.headers 1 two (omega arith)) c.encoded-color.ensures.1
 
-returns : tie.Need-returns
+returns : tie.Need-returns-then-status-ne0
 returns c =
-    let j = c.before.before in
-    let a = j.before.before.args in
-    judged-out a.t1 a.source.now _ j.«record».result c.refused.ensures j.«record».ensures c.before.if1.true
+    let a = c.args in
+    judged-out a.«record» a.source.now _ c.record-status.result c.refused.ensures c.record-status.ensures c.if-status-ne0.true
 
-measure-requires : tie.Need-measure-requires
+measure-requires : tie.Need-measure-layout-requires
 measure-requires c κs =
     let j = (begun c).before in
-    let known = record-known (r c) j.before.before.args.source.now j.«record».result j.«record».ensures (begun c).if1.false in
-    (known.few, (c.before.encoded.ensures.0, c.encoded2.ensures.0))
+    let known = record-known (r c) j.before.before.args.source.now j.«record».result j.«record».ensures (begun c).if-status-ne0.false in
+    (known.few, (c.encoded-alpha.ensures.0, c.encoded-color.ensures.0))
 
-returns-2 : tie.Need-returns-2
+returns-2 : tie.Need-returns
 returns-2 c =
-    let m = c.before in
-    let e = m.before in
+    let e = c.before.before in
     let j = (begun e).before in
-    planned (r e) j.before.before.args.source.now j.«record».result j.«record».ensures (begun e).if1.false e.before.encoded.result e.encoded2.result
-    m.measure.result m.measure.ensures (alpha-encoded e) (color-encoded e) e.before.encoded.ensures.0 e.encoded2.ensures.0 c.length-status.result
-    c.length-status.ensures
+    planned (r e) j.before.before.args.source.now j.«record».result j.«record».ensures (begun e).if-status-ne0.false c.encoded-alpha.result c.encoded-color.result
+    c.measure-layout.result c.measure-layout.ensures (alpha-encoded e) (color-encoded e) c.encoded-alpha.ensures.0 c.encoded-color.ensures.0 c.length_status.result
+    c.length_status.ensures
 
-pub prepare-spec : {M : Type 1} → statement M
-prepare-spec =
+pub prepare_spec : {M : Type 1} → statement M
+prepare_spec =
     tie.close
     (tie.spec
     (λ c κs. search rules)

@@ -9,7 +9,7 @@ use Rattle.bpg_sample_check.proofs.CallLaws.{Accepted, kept, stored, judged-answ
 use Rattle.bpg_ycgco.proofs.call.ycgco.Statement.{statement}
 use Rattle.bpg_ycgco.proofs.call.ycgco.Tie as tie
 
-module _ (c : tie.After-judge-3) where
+module _ (c : tie.After-judge_3-answer) where
   abbrev start : tie.Start
   start = c.before.before.before.before.before.before.before.before
 
@@ -19,22 +19,22 @@ module _ (c : tie.After-judge-3) where
   abbrev buffers : List (List ℕ)
   buffers = start.args.red.now ∷ start.args.green.now ∷ start.args.blue.now ∷ []
 
-  answered : c.judge-3.result ≡ answer_of (judged start.args.depth (start.args.y.now ∷ others) buffers)
-  answered = judged-answer _ _ others buffers _ c.judge-3.ensures
+  answered : c.judge_3-answer.result ≡ answer_of (judged start.args.depth (start.args.y.now ∷ others) buffers)
+  answered = judged-answer _ _ others buffers _ c.judge_3-answer.ensures
 
-returns : tie.Need-returns
+returns : tie.Need-returns-then-answer-ne0
 returns c =
-    let n = c.if1.true in
+    let n = c.if-answer-ne0.true in
     (answered c.before.before, (kept _ _ _ n, (kept _ _ _ n, kept _ _ _ n)))
 
-passed : (c : tie.Else1) → Accepted (start c.before.before).args.depth (start c.before.before).args.y.now (others c.before.before) (buffers c.before.before)
-passed c = accepted _ _ _ _ _ c.before.before.judge-3.ensures c.if1.false
+passed : (c : tie.Else-answer-ne0) → Accepted (start c.before.before).args.depth (start c.before.before).args.y.now (others c.before.before) (buffers c.before.before)
+passed c = accepted _ _ _ _ _ c.judge_3-answer.ensures c.if-answer-ne0.false
 
 -- planes are 0 to 2, and buffers 3 to 5
-convert-planes-requires : tie.Need-convert-planes-requires
+convert-planes-requires : tie.Need-convert_planes-requires
 convert-planes-requires c κs =
     let p = passed c.before.before.before.before in
-    let m = c.before.before.before.max-sample.ensures in
+    let m = c.max_sample-m.ensures in
     record {
       low = p.low;
       high = p.high;
@@ -49,14 +49,14 @@ convert-planes-requires c κs =
       co-samples = in-plane p m 2;
     }
 
-returns-2 : tie.Need-returns-2
+returns-2 : tie.Need-returns
 returns-2 c =
-    let e = c.before.before.before.before.before.before.before.before.before.before.before.if1.false in
-    let w = c.before.before.before.before.before.before.convert-planes.ensures in
+    let e = c.if-answer-ne0.false in
+    let w = c.convert_planes.ensures in
     (answered c.before.before.before.before.before.before.before.before.before.before.before.before.before, (stored _ _ e w.0, (stored _ _ e w.1.0, stored _ _ e w.1.1)))
 
-pub ycgco-spec : {M : Type 1} → statement M
-ycgco-spec =
+pub ycgco_spec : {M : Type 1} → statement M
+ycgco_spec =
     tie.close
     (tie.spec
     (λ c. search rules)

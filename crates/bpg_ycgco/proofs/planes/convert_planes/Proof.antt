@@ -15,17 +15,17 @@ use Rattle.bpg_ycgco.proofs.Differences.{green-is, blue-is, red-is}
 use Rattle.bpg_ycgco.proofs.planes.convert_planes.Statement.{statement}
 use Rattle.bpg_ycgco.proofs.planes.convert_planes.Tie as tie
 
-abbrev invariant-loop : tie.invariant-loop
+abbrev invariant-loop : tie.invariant-loop-i
 invariant-loop y cg co red₀ green₀ blue₀ m depth half i₀ red green blue i =
     Filled (length y) (zip_with3 (red_of depth) y cg co) red i × Filled (length y) (zip_with (green_of depth) y cg) green i
     × Filled (length y) (zip_with3 (blue_of depth) y cg co) blue i
 
-abbrev decreases-loop : tie.decreases-loop
+abbrev decreases-loop : tie.decreases-loop-i
 decreases-loop y cg co red₀ green₀ blue₀ m depth half i₀ red green blue i = length y - i
 
-loop-holds : tie.Need-loop-init invariant-loop decreases-loop
+loop-holds : tie.Need-loop-i-init invariant-loop decreases-loop
 loop-holds c =
-    let g = c.before.before.before.before.before.before.before.requires in
+    let g = c.requires in
     (fill_begins _ _ _ g.red-length, fill_begins _ _ _ g.green-length, fill_begins _ _ _ g.blue-length)
 
 -- ---- the numbers of a pixel
@@ -33,69 +33,66 @@ loop-holds c =
 m-high : (s : tie.Start invariant-loop decreases-loop) → s.args.m ≤ 16383
 m-high s = omega (arith, s.requires.m-is, max-high s.args.depth s.requires.high)
 
-half_high : (c : tie.After-half-range invariant-loop decreases-loop) → c.half-range.result ≤ 8192
+half_high : (c : tie.After-half_range-half invariant-loop decreases-loop) → c.half_range-half.result ≤ 8192
 half_high c = omega (arith, m-high c.before.before.before.before.before.before.before)
 
-module _ (c : tie.In-loop invariant-loop decreases-loop) where
+module _ (c : tie.In-loop-i invariant-loop decreases-loop) where
   abbrev start : tie.Start invariant-loop decreases-loop
   start = c.before.before.before.before.before.before.before.before.before
 
   abbrev sample : ℕ
-  sample = c.before.loop.i
+  sample = c.loop-i.i
 
   y-at-most : get_or start.args.y.now sample 0 ≤ start.args.m
-  y-at-most = le_trans (at-most-largest start.args.y.now sample) start.pre.y-samples
+  y-at-most = le_trans (at-most-largest start.args.y.now sample) start.requires.y-samples
 
   cg-at-most : get_or start.args.cg.now sample 0 ≤ start.args.m
-  cg-at-most = le_trans (at-most-largest start.args.cg.now sample) start.pre.cg-samples
+  cg-at-most = le_trans (at-most-largest start.args.cg.now sample) start.requires.cg-samples
 
   co-at-most : get_or start.args.co.now sample 0 ≤ start.args.m
-  co-at-most = le_trans (at-most-largest start.args.co.now sample) start.pre.co-samples
+  co-at-most = le_trans (at-most-largest start.args.co.now sample) start.requires.co-samples
 
-half-range-requires : tie.Need-half-range-requires invariant-loop decreases-loop
+half-range-requires : tie.Need-half_range-half-requires invariant-loop decreases-loop
 half-range-requires c κs = m-high c.before.before.before.before.before.before
 
-t-plus-half-requires : tie.Need-t-plus-half-requires invariant-loop decreases-loop
+t-plus-half-requires : tie.Need-t_plus_half-t-requires invariant-loop decreases-loop
 t-plus-half-requires c κs =
     let l = c.before.before.before in
-    let h = c.before.before.before.before.before in
-    (omega (arith, y-at-most l, m-high (start l)), omega (arith, cg-at-most l, m-high (start l), h.half-range.ensures), half_high h)
+    (omega (arith, y-at-most l, m-high (start l)), omega (arith, cg-at-most l, m-high (start l), c.half_range-half.ensures), half_high c.before.before.before.before.before)
 
-red-at-requires : tie.Need-red-at-requires invariant-loop decreases-loop
+red-at-requires : tie.Need-red_at-requires invariant-loop decreases-loop
 red-at-requires c κs =
     let l = c.before.before.before.before in
-    let h = c.before.before.before.before.before.before in
-    (omega (arith, y-at-most l, m-high (start l), h.half-range.ensures, c.t-plus-half.ensures), omega (arith, co-at-most l, m-high (start l)), half_high h)
+    (omega (arith, y-at-most l, m-high (start l), c.half_range-half.ensures, c.t_plus_half-t.ensures), omega (arith, co-at-most l, m-high (start l)), half_high c.before.before.before.before.before.before)
 
-green-at-requires : tie.Need-green-at-requires invariant-loop decreases-loop
+green-at-requires : tie.Need-green_at-requires invariant-loop decreases-loop
 green-at-requires c κs =
     let l = c.before.before.before.before.before in
-    let h = c.before.before.before.before.before.before.before in
     (omega (arith, y-at-most l, m-high (start l)), omega (arith, cg-at-most l, m-high (start l)))
 
-loop-again : tie.Need-loop-preserved invariant-loop decreases-loop
+loop-again : tie.Need-loop-i-preserved invariant-loop decreases-loop
 loop-again c =
     let l = c.before.before.before.before.before.before.before in
-    let f = l.before.loop.invariant in
+    let f = c.loop-i.invariant in
     let g = (start l).requires in
-    let h = c.before.before.before.before.before.before.before.before.before.half-range.ensures in
-    let t = c.before.before.before.t-plus-half.ensures in (
-      zip3-next _ _ _ _ _ _ f.0 g.cg-length g.co-length _ (c.before.before.red-at.ensures ∙ red-is _ _ _ _ _ _ _ g.low g.m-is h (cg-at-most l) t) l.loop-test.true,
-      zip-next _ _ _ _ f.1 refl g.cg-length _ (c.before.green-at.ensures ∙ green-is _ _ _ 0 _ _ _ g.low g.m-is h (cg-at-most l) t) l.loop-test.true,
-      zip3-next _ _ _ _ _ _ f.2 g.cg-length g.co-length _ (c.blue-at.ensures ∙ blue-is _ _ _ _ _ _ _ g.low g.m-is h (cg-at-most l) t) l.loop-test.true,
+    let h = c.half_range-half.ensures in
+    let t = c.t_plus_half-t.ensures in (
+      zip3-next _ _ _ _ _ _ f.0 g.cg-length g.co-length _ (c.red_at.ensures ∙ red-is _ _ _ _ _ _ _ g.low g.m-is h (cg-at-most l) t) c.loop-i-test.true,
+      zip-next _ _ _ _ f.1 refl g.cg-length _ (c.green_at.ensures ∙ green-is _ _ _ 0 _ _ _ g.low g.m-is h (cg-at-most l) t) c.loop-i-test.true,
+      zip3-next _ _ _ _ _ _ f.2 g.cg-length g.co-length _ (c.blue_at.ensures ∙ blue-is _ _ _ _ _ _ _ g.low g.m-is h (cg-at-most l) t) c.loop-i-test.true,
     )
 
 returns : tie.Need-returns invariant-loop decreases-loop
 returns c =
-    let f = c.before.loop.invariant in
-    let g = c.before.before.before.before.before.before.before.before.before.requires in
-    let e = c.loop-test.false in (
+    let f = c.loop-i.invariant in
+    let g = c.requires in
+    let e = c.loop-i-test.false in (
       zip3-ends _ _ _ _ _ _ f.0 g.cg-length g.co-length e,
       (zip_ends _ _ _ _ f.1 refl g.cg-length e, zip3-ends _ _ _ _ _ _ f.2 g.cg-length g.co-length e),
     )
 
-pub convert-planes-spec : {M : Type 1} → statement M
-convert-planes-spec =
+pub convert_planes_spec : {M : Type 1} → statement M
+convert_planes_spec =
     tie.close
     (tie.spec
     invariant-loop

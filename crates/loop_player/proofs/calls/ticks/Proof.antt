@@ -12,15 +12,15 @@ use Rattle.loop_player.proofs.calls.ticks.Tie as tie
 
 returns : tie.Need-returns-then-not-period_known
 unfolding ticks_answer
-returns c = rw (sym c.period_known.ensures ∙ not-true _ c.if-not-period_known.true)
+returns c = rw (sym c.period_known.ensures ∙ c.if-not-period_known.true)
 
 abbrev at : tie.Else-not-period_known → tie.Start
 at c = c.before.before
 
-known : (c : tie.Else-not-period_known) → period_known (at c).args.period-num (at c).args.period-den ≡ true
-known c = sym c.period_known.ensures ∙ not-false _ c.if-not-period_known.false
+known : (c : tie.Else-not-period_known) → period_known (at c).args.period_num (at c).args.period_den ≡ true
+known c = sym c.period_known.ensures ∙ c.if-not-period_known.false
 
-num-positive : (c : tie.Else-not-period_known) → 0 < (at c).args.period-num
+num-positive : (c : tie.Else-not-period_known) → 0 < (at c).args.period_num
 num-positive c = ltb-true _ _ (and_left _ _ (known c))
 
 mul-t8 : tie.Need-overflow_mul-result
