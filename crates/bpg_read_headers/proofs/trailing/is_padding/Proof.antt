@@ -25,9 +25,9 @@ module _ (c : tie.After-count-end) where
   counted = c.count-end.ensures
 
 -- and there are fewer than eight
-module _ (c : tie.After-shared_slice_known-2-1) where
+module _ (c : tie.Else-left-ge8) where
   abbrev start : tie.After-count-end
-  start = c.before.before.before.before
+  start = c.before.before
 
   abbrev left : ℕ
   left = start.count-end.result - at start
@@ -51,17 +51,19 @@ returns-2 c =
 
 shared-slice-read-result : tie.Need-bounds-region-byte
 shared-slice-read-result c =
-    let l = region (start c) in
-    omega (arith, some c, counted (start c), c.byte_of-byte.ensures, length-unpack (take (2 ^ 60) l), length-take (2 ^ 60) l)
+    let k = c.before.before in
+    let l = region (start k) in
+    omega (arith, some k, counted (start k), c.byte_of-byte.ensures, length-unpack (take (2 ^ 60) l), length-take (2 ^ 60) l)
 
 rem-result : tie.Need-nonzero_rem-result
-rem-result c = rw (shifted c) (pow_pos (left c))
+rem-result c = let k = c.before.before in rw (shifted k) (pow_pos (left k))
 
 returns-3 : tie.Need-returns
 returns-3 c =
-    let l = region (start c) in
-    rw (shifted c)
-    (decided l (at (start c)) (left c) _ (omega (arith, counted (start c))) (some c) (few c) (ap (λ (k : ℕ). get_or l k 0) c.byte_of-byte.ensures))
+    let k = c.before.before in
+    let l = region (start k) in
+    rw (shifted k)
+    (decided l (at (start k)) (left k) _ (omega (arith, counted (start k))) (some k) (few k) (ap (λ (k : ℕ). get_or l k 0) c.byte_of-byte.ensures))
 
 pub is_padding_spec : {M : Type 1} → statement M
 is_padding_spec =

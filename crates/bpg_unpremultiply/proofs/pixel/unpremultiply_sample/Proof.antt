@@ -20,16 +20,16 @@ module _ (c : tie.After-half_of-half) where
   abbrev m : ℕ
   m = c.args.m
 
-  divided : c.smaller-least.result * m + c.half_of_lem.result ≡ dividend m colour alpha
-  divided = ap₂ (λ (n h : ℕ). n * m + h) c.smaller-least.ensures c.half_of_lem.ensures
+  divided : c.smaller-least.result * m + c.half_of-half.result ≡ dividend m colour alpha
+  divided = ap₂ (λ (n h : ℕ). n * m + h) c.smaller-least.ensures c.half_of-half.ensures
 
   below : dividend m colour alpha ≤ 16383 * 16384
   below = dividend-high m colour alpha (omega arith) (omega arith)
 
-  product : (c.smaller-least.result * m + c.half_of_lem.result) * c.args.reciprocal ≡ dividend m colour alpha * reciprocal_of alpha
+  product : (c.smaller-least.result * m + c.half_of-half.result) * c.args.reciprocal ≡ dividend m colour alpha * reciprocal_of alpha
   product = ap₂ (λ (n v : ℕ). n * v) divided c.requires.2
 
-found : (c : tie.Else-a-eq0) → (c.smaller-least.result * m c.before + c.half_of_lem.result) * c.args.reciprocal / 2 ^ 44
+found : (c : tie.Else-a-eq0) → (c.smaller-least.result * m c.before + c.half_of-half.result) * c.args.reciprocal / 2 ^ 44
     ≡ unpremultiplied (m c.before) (colour c.before) (alpha c.before)
 found c = ap (λ (n : ℕ). n / 2 ^ 44) (product c.before) ∙ shifted _ _ _ (omega arith) (omega arith) (omega arith)
 

@@ -40,15 +40,13 @@ returns c =
 
 measure-requires : tie.Need-measure-layout-requires
 measure-requires c κs =
-    let j = (begun c).before in
-    let known = record-known (r c) j.before.before.args.source.now j.«record».result j.«record».ensures (begun c).if-status-ne0.false in
+    let known = record-known (r c) c.args.source.now c.record-status.result c.record-status.ensures (begun c).if-status-ne0.false in
     (known.few, (c.encoded-alpha.ensures.0, c.encoded-color.ensures.0))
 
 returns-2 : tie.Need-returns
 returns-2 c =
     let e = c.before.before in
-    let j = (begun e).before in
-    planned (r e) j.before.before.args.source.now j.«record».result j.«record».ensures (begun e).if-status-ne0.false c.encoded-alpha.result c.encoded-color.result
+    planned (r e) c.args.source.now c.record-status.result c.record-status.ensures (begun e).if-status-ne0.false c.encoded-alpha.result c.encoded-color.result
     c.measure-layout.result c.measure-layout.ensures (alpha-encoded e) (color-encoded e) c.encoded-alpha.ensures.0 c.encoded-color.ensures.0 c.length_status.result
     c.length_status.ensures
 

@@ -16,11 +16,11 @@ use Rattle.bpg_writer.proofs.PartLaws.{bytes_next, bytes-grow, nth-used}
 use Rattle.bpg_writer.proofs.emit.entries.Statement.{statement}
 use Rattle.bpg_writer.proofs.emit.entries.Tie as tie
 
-abbrev invariant-loop : tie.invariant-loop
+abbrev invariant-loop : tie.invariant-loop-k
 invariant-loop out₀ source all total next₀ k₀ out next k =
     (k ≤ total) × Put out₀ next₀ (block_bytes (map (extension_of source) (take k all))) out next
 
-abbrev decreases-loop : tie.decreases-loop
+abbrev decreases-loop : tie.decreases-loop-k
 decreases-loop out₀ source all total next₀ k₀ out next k = total - k
 
 -- where the loop began
@@ -33,69 +33,67 @@ module _ (s : tie.Start invariant-loop decreases-loop) where
   first k = block_bytes (map (extension_of s.args.source.now) (take k s.args.«record».entries))
 
   fits : (k : ℕ) → k ≤ s.args.«record».entry_count → s.args.at.0 + length (first k) ≤ length s.args.out.now
-  fits k h = omega (arith, s.pre.1.1, bytes-grow s.args.source.now s.args.«record».entries k s.args.«record».entry_count h)
+  fits k h = omega (arith, s.requires.1.1, bytes-grow s.args.source.now s.args.«record».entries k s.args.«record».entry_count h)
 
 -- a turn of the loop
-module _ (c : tie.In-loop invariant-loop decreases-loop) where
+module _ (c : tie.In-loop-k invariant-loop decreases-loop) where
   abbrev start : tie.Start invariant-loop decreases-loop
   start = c.before.before.before.before.before.before
 
   abbrev k : ℕ
-  k = c.before.loop.k
+  k = c.loop-k.k
 
   inside : k < length start.args.«record».entries
-  inside = omega (arith, whole start, start.pre.0, c.loop-test.true)
+  inside = omega (arith, whole start, start.requires.0, c.loop-k-test.true)
 
   more : first start (k + 1) ≡ first start k ++ extension_bytes (extension_of start.args.source.now (get_or start.args.«record».entries k zero_entry))
   more = bytes_next start.args.source.now start.args.«record».entries k inside
 
-  so_far : (c.before.loop.next ≡ start.args.at.0 + length (first start k)) × (length c.before.loop.out ≡ length start.args.out.now)
-  so_far = put-end start.args.out.now start.args.at.0 (first start k) (fits start k c.before.loop.invariant.0) c.before.loop.invariant.1
+  so_far : (c.loop-k.next ≡ start.args.at.0 + length (first start k)) × (length c.loop-k.out ≡ length start.args.out.now)
+  so_far = put-end start.args.out.now start.args.at.0 (first start k) (fits start k c.loop-k.invariant.0) c.loop-k.invariant.1
 
   fits_more : start.args.at.0 + length (first start k ++ extension_bytes (extension_of start.args.source.now (get_or start.args.«record».entries k zero_entry)))
       ≤ length start.args.out.now
-  fits_more = omega (arith, fits start (k + 1) (omega (arith, c.loop-test.true)), ap length more)
+  fits_more = omega (arith, fits start (k + 1) (omega (arith, c.loop-k-test.true)), ap length more)
 
-loop-holds : tie.Need-loop-init invariant-loop decreases-loop
-loop-holds c = let s = c.before.before.before.before in (omega arith, put-none s.args.out.now s.args.at.0 (omega (arith, s.requires.1.1)))
+loop-holds : tie.Need-loop-k-init invariant-loop decreases-loop
+loop-holds c = (omega arith, put-none c.args.out.now c.args.at.0 (omega (arith, c.requires.1.1)))
 
-mul-one : tie.Need-overflow-mul-one invariant-loop decreases-loop
+mul-one : tie.Need-offset_bounds-all-k invariant-loop decreases-loop
 mul-one c = omega (arith, (start c).requires.0)
 
-array-copy-out-one : tie.Need-array-copy-out-one invariant-loop decreases-loop
+array-copy-out-one : tie.Need-bounds-all-k invariant-loop decreases-loop
 array-copy-out-one c = omega (arith, (start c).requires.0)
 
-entry-requires : tie.Need-entry-requires invariant-loop decreases-loop
+entry-requires : tie.Need-entry-next-requires invariant-loop decreases-loop
 entry-requires c κs =
     let l = c.before.before in
     let s = start l in (
-      nth-used (RangeInside (length s.args.source.now)) s.args.«record».entries s.args.«record».entry_count (k l) s.pre.1.0 l.loop-test.true (inside l),
+      nth-used (RangeInside (length s.args.source.now)) s.args.«record».entries s.args.«record».entry_count (k l) s.requires.1.0 c.loop-k-test.true (inside l),
       omega (arith, fits_more l, (so_far l).0, (so_far l).1, length-append (first s (k l)) (extension_bytes (extension_of s.args.source.now (get_or s.args.«record».entries (k l) zero_entry)))),
     )
 
-loop-again : tie.Need-loop-preserved invariant-loop decreases-loop
+loop-again : tie.Need-loop-k-preserved invariant-loop decreases-loop
 loop-again c =
-    let e = c.before.before in
-    let l = e.before.before.before in
+    let l = c.before.before.before.before.before in
     let s = start l in (
-      omega (arith, l.loop-test.true),
+      omega (arith, c.loop-k-test.true),
       put_same s.args.out.now s.args.at.0 (sym (more l))
-          (put_then s.args.out.now s.args.at.0 (first s (k l)) _ (fits_more l) l.before.loop.invariant.1 λ _. e.entry.ensures),
+          (put_then s.args.out.now s.args.at.0 (first s (k l)) _ (fits_more l) c.loop-k.invariant.1 λ _. c.entry-next.ensures),
     )
 
-same_length : tie.Need-same-length invariant-loop decreases-loop
+same_length : tie.Need-shape_of-out invariant-loop decreases-loop
 same_length c =
     let s = c.before.before.before.before.before.before in
-    (put-end s.args.out.now s.args.at.0 (first s c.before.loop.k) (fits s c.before.loop.k c.before.loop.invariant.0) c.before.loop.invariant.1).1
+    (put-end c.args.out.now c.args.at.0 (first s c.loop-k.k) (fits s c.loop-k.k c.loop-k.invariant.0) c.loop-k.invariant.1).1
 
 returns : tie.Need-returns invariant-loop decreases-loop
 returns c =
-    let s = c.before.before.before.before.before.before in
-    let e : c.before.loop.k ≡ s.args.«record».entry_count = omega (arith, c.loop-test.false, c.before.loop.invariant.0) in
-    put_same s.args.out.now s.args.at.0 (ap (first s) e) c.before.loop.invariant.1
+    let e : c.loop-k.k ≡ c.args.«record».entry_count = omega (arith, c.loop-k-test.false, c.loop-k.invariant.0) in
+    put_same c.args.out.now c.args.at.0 (ap (first c.before.before.before.before.before.before) e) c.loop-k.invariant.1
 
-pub entries-spec : {M : Type 1} → statement M
-entries-spec =
+pub entries_spec : {M : Type 1} → statement M
+entries_spec =
     tie.close
     (tie.spec
     invariant-loop

@@ -12,16 +12,12 @@ use Rattle.bpg_writer.proofs.emit.entry.Tie as tie
 
 returns : tie.Need-returns
 returns c =
-    let w3 = c.before.before in
-    let w2 = w3.before.before.before.before.before.before.before in
-    let w1 = w2.before.before.before.before in
-    let s = w1.before.before.before.before in
-    let r = s.args.entry.payload in
+    let r = c.args.entry.payload in
     let n : r.start + r.length - r.start ≡ r.length = omega arith in
-    let whole = entry-bytes s.args.source.now s.args.entry s.requires.0 (r.start + r.length - r.start) n in
-    put_same s.args.out.now s.args.at.0 whole
-    (put_then s.args.out.now s.args.at.0 (ue7_bytes s.args.entry.tag) _ (omega (arith, s.requires.1, ap length whole)) w1.write.ensures λ f.
-    put_then w1.write.new.0 _ (ue7_bytes r.length) _ f w2.write2.ensures λ _. w3.write3.ensures)
+    let whole = entry-bytes c.args.source.now c.args.entry c.requires.0 (r.start + r.length - r.start) n in
+    put_same c.args.out.now c.args.at.0 whole
+    (put_then c.args.out.now c.args.at.0 (ue7_bytes c.args.entry.tag) _ (omega (arith, c.requires.1, ap length whole)) c.write-p.ensures λ f.
+    put_then c.write-p.new.out _ (ue7_bytes r.length) _ f c.write-q.ensures λ _. c.write.ensures)
 
 pub entry_spec : {M : Type 1} → statement M
 entry_spec =

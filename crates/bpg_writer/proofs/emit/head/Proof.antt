@@ -13,21 +13,15 @@ use Rattle.bpg_writer.proofs.emit.head.Tie as tie
 
 returns : tie.Need-returns
 returns c =
-    let w4 = c.before.before in
-    let w3 = w4.before.before.before.before in
-    let w2 = w3.before.before.before.before in
-    let w1 = w2.before.before.before.before in
-    let five = w1.before.before.before in
-    let s = five.before.before.before in
-    let r = s.args.«record» in
-    let six = ap₂ (λ (x y : ℕ). magic ++ (x ∷ y ∷ [])) five.before.byte4.ensures five.byte5.ensures in
+    let r = c.args.«record» in
+    let six = ap₂ (λ (x y : ℕ). magic ++ (x ∷ y ∷ [])) c.byte4.ensures c.byte5.ensures in
     let width = ue7_bytes r.picture_width in
     let height = ue7_bytes r.picture_height in
-    let size = ue7_bytes s.args.data-length in
-    put_then s.args.out.now 0 (magic ++ (byte4 (record_flags r) ∷ byte5 (record_flags r) ∷ [])) (width ++ (height ++ size)) (omega (arith, s.requires.1.1.1))
-    (put_same s.args.out.now 0 six w1.write.ensures) λ f.
-    put_then w1.write.new.0 _ width (height ++ size) f w2.write2.ensures λ f.
-    put_then w2.write2.new.0 _ height size f w3.write3.ensures λ _. w4.write4.ensures
+    let size = ue7_bytes c.args.data_length in
+    put_then c.args.out.now 0 (magic ++ (byte4 (record_flags r) ∷ byte5 (record_flags r) ∷ [])) (width ++ (height ++ size)) (omega (arith, c.requires.1.1.1))
+    (put_same c.args.out.now 0 six c.write-p.ensures) λ f.
+    put_then c.write-p.new.out _ width (height ++ size) f c.write-q.ensures λ f.
+    put_then c.write-q.new.out _ height size f c.write-r.ensures λ _. c.write.ensures
 
 pub head_spec : {M : Type 1} → statement M
 head_spec =

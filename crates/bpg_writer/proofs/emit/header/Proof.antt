@@ -14,24 +14,19 @@ use borrow.Author.Rules.{rules}
 use Rattle.bpg_writer.proofs.emit.header.Statement.{statement}
 use Rattle.bpg_writer.proofs.emit.header.Tie as tie
 
-returns : tie.Need-returns
+returns : tie.Need-returns-then-not-present
 returns c =
-    let s = c.before.before in
-    put-absent s.args.out.now s.args.at.0 _ _ (not-true _ c.if1.true) s.requires.1
+    put-absent c.args.out.now c.args.at.0 _ _ (c.if-not-present.true) c.requires.1
 
-returns-2 : tie.Need-returns-2
+returns-2 : tie.Need-returns
 returns-2 c =
-    let w2 = c.before.before in
-    let w1 = w2.before.before.before.before in
-    let e = w1.before.before.before in
-    let s = e.before.before in
-    let n = bytes_for s.args.bits.len.0 in
-    let l = ue7_bytes n ++ buffer_bytes s.args.bits in
-    let is = ap length (select-true {X = List ℕ} {b = s.args.present} l [] (not-false _ e.if1.false)) in
-    put-present s.args.out.now s.args.at.0 l (not-false _ e.if1.false)
-    (put_then s.args.out.now s.args.at.0 (ue7_bytes n) (buffer_bytes s.args.bits) (omega (arith, s.requires.1, is)) w1.write.ensures λ _. w2.write2.ensures)
+    let n = bytes_for c.args.bits.len.0 in
+    let l = ue7_bytes n ++ buffer_bytes c.args.bits in
+    let is = ap length (select-true {X = List ℕ} {b = c.args.present} l [] (c.if-not-present.false)) in
+    put-present c.args.out.now c.args.at.0 l (c.if-not-present.false)
+    (put_then c.args.out.now c.args.at.0 (ue7_bytes n) (buffer_bytes c.args.bits) (omega (arith, c.requires.1, is)) c.write-p.ensures λ _. c.write.ensures)
 
-pub header-spec : {M : Type 1} → statement M
-header-spec =
+pub header_spec : {M : Type 1} → statement M
+header_spec =
     tie.close
     (tie.spec returns (λ c. search rules) (λ c. search rules) (λ c κs. search rules) (λ c κs. search rules) (λ c. search rules) returns-2)

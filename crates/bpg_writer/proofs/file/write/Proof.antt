@@ -10,11 +10,9 @@ use Rattle.bpg_writer.proofs.file.write.Tie as tie
 -- with what the types say of the record and of the source
 returns : tie.Need-returns
 returns c =
-    let w = c.before.before in
-    let k = w.before.before.before in
-    let a = k.before.args in
-    exact a.«record» a.source.now a.out.now (typed a.«record» k.before.well-formed.0) (all-bytes a.source.now (λ i. omega (arith, k.shared-slice-known.given i)))
-    _ _ w.write-or-size.ensures
+    let a = c.args in
+    exact a.«record» a.source.now a.out.now (typed a.«record» c.well_formed.0) (all-bytes a.source.now (λ i. omega (arith, c.shared_slice_known-1.given i)))
+    _ _ c.write_or_size.ensures
 
 pub write_spec : {M : Type 1} → statement M
 write_spec = tie.close (tie.spec (λ c κs. search rules) (λ c. search rules) returns)

@@ -12,62 +12,58 @@ use Rattle.bpg_writer.proofs.file.write_or_size.Statement.{statement}
 use Rattle.bpg_writer.proofs.file.write_or_size.Tie as tie
 
 -- the record is not refused
-module _ (c : tie.Else1) where
-  abbrev known : tie.After-prepare
+module _ (c : tie.Else-plan-ne0) where
+  abbrev known : tie.After-prepare-plan
   known = c.before.before
 
   abbrev r : Record
-  r = known.before.before.before.args.«record»
+  r = known.args.«record»
 
   abbrev source : List ℕ
-  source = known.before.before.before.args.source.now
+  source = known.args.source.now
 
   abbrev out : List ℕ
-  out = known.before.before.before.args.out.now
+  out = known.args.out.now
 
-  ready : Ready r source known.prepare.result
-  ready = known.prepare.ensures.ready c.if1.false
+  ready : Ready r source known.prepare-plan.result
+  ready = known.prepare-plan.ensures.ready c.if-plan-ne0.false
 
 -- what is answered, and what the laws say of it
-answered : (c : tie.After-prepare) (w v : Written) (after : List ℕ) → w ≡ v
-    → let a = c.before.before.before.args in
+answered : (c : tie.After-prepare-plan) (w v : Written) (after : List ℕ) → w ≡ v
+    → let a = c.args in
     Answers a.«record» a.source.now a.out.now a.sizing v after → Answers a.«record» a.source.now a.out.now a.sizing w after
 answered c w v after e h = (e ∙ h.0, h.1)
 
-returns : tie.Need-returns
+returns : tie.Need-returns-then-plan-ne0
 returns c =
-    let p = c.before.before.before in
-    let a = p.before.before.before.args in
-    answered p _ _ _ c.written-refused.ensures
-    (refused a.«record» a.source.now a.out.now a.sizing p.prepare.result.status (p.prepare.ensures.refused c.before.if1.true))
+    let a = c.args in
+    answered c.before.before.before _ _ _ c.written_refused.ensures
+    (refused a.«record» a.source.now a.out.now a.sizing c.prepare-plan.result.status (c.prepare-plan.ensures.refused c.if-plan-ne0.true))
 
-returns-2 : tie.Need-returns-2
+returns-2 : tie.Need-returns-then-sizing
 returns-2 c =
     let e = c.before.before in
-    answered (known e) _ _ _ c.written.ensures (sized (r e) (source e) (out e) (known e).prepare.result (ready e) _ c.before.if2.true)
+    answered (known e) _ _ _ c.written.ensures (sized (r e) (source e) (out e) (known e).prepare-plan.result (ready e) _ c.if-sizing.true)
 
-returns-3 : tie.Need-returns-3
+returns-3 : tie.Need-returns-then-out-size
 returns-3 c =
-    let n = c.before.before in
-    let e = n.before in
-    answered (known e) _ _ _ c.written-refused2.ensures
-    (too_small (r e) (source e) (out e) (known e).prepare.result (ready e) _ n.if2.false c.before.if3.true)
+    let e = c.before.before.before in
+    answered (known e) _ _ _ c.written_refused-then-out-size.ensures
+    (too_small (r e) (source e) (out e) (known e).prepare-plan.result (ready e) _ c.if-sizing.false c.if-out-size.true)
 
-emit-file-requires : tie.Need-emit-file-requires
+emit-file-requires : tie.Need-emit_file-requires
 emit-file-requires c κs =
     let e = c.before.before.before in
-    (ready e, omega (arith, c.before.if3.false, (ready e).total-is))
+    (ready e, omega (arith, c.if-out-size.false, (ready e).total-is))
 
-returns-4 : tie.Need-returns-4
+returns-4 : tie.Need-returns
 returns-4 c =
-    let w = c.before.before.before in
-    let t = w.before.before in
-    let e = t.before.before in
-    answered (known e) _ _ _ c.written2.ensures
-    (file-written (r e) (source e) (out e) (known e).prepare.result (ready e) _ t.before.if2.false (omega (arith, t.if3.false)) w.emit-file.new.0 w.emit-file.ensures)
+    let e = c.before.before.before.before.before.before.before in
+    answered (known e) _ _ _ c.written-2.ensures
+    (file-written (r e) (source e) (out e) (known e).prepare-plan.result (ready e) _ c.if-sizing.false (omega (arith, c.if-out-size.false)) c.emit_file.new.out c.emit_file.ensures)
 
-pub write-or-size-spec : {M : Type 1} → statement M
-write-or-size-spec =
+pub write_or_size_spec : {M : Type 1} → statement M
+write_or_size_spec =
     tie.close
     (tie.spec
     (λ c κs. search rules)
