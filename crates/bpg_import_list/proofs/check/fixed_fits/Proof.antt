@@ -10,19 +10,15 @@ use Rattle.bpg_import_list.proofs.check.fixed_fits.Tie as tie
 returns : tie.Need-returns
 unfolding fixed_fits
 returns c =
-    let w4 = c.before in
-    let w3 = w4.before.before.before in
-    let w2 = w3.before.before.before in
-    let w1 = w2.before.before.before in
-    let l = w1.before.before.before.args.numbers.now in
-    let head = w1.within.ensures in
-    let alpha = w2.within2.ensures ∙ ap (within header_fields) (to_end l alpha_start) in
-    let color = w3.within3.ensures ∙ ap (within header_fields) (to_end l color_start) in
-    let data-range = w4.within4.ensures ∙ ap (within range_fields) (to_end l data_start) in
+    let l = c.args.numbers.now in
+    let head = c.within-head.ensures in
+    let alpha = c.within-alpha.ensures ∙ ap (within header_fields) (to_end l alpha_start) in
+    let color = c.within-color.ensures ∙ ap (within header_fields) (to_end l color_start) in
+    let data-range = c.within-data.ensures ∙ ap (within range_fields) (to_end l data_start) in
     rw (head, alpha, color, data-range) refl
 
-pub fixed-fits-spec : {M : Type 1} → statement M
-fixed-fits-spec =
+pub fixed_fits_spec : {M : Type 1} → statement M
+fixed_fits_spec =
     tie.close
     (tie.spec
     (λ c. search rules) (λ c κs. search rules) (λ c. search rules) (λ c. search rules) (λ c. search rules)

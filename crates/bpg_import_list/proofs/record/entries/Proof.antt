@@ -17,10 +17,10 @@ use Rattle.bpg_import_list.proofs.ListLaws.{entries-more, entries-count}
 use Rattle.bpg_import_list.proofs.record.entries.Statement.{statement}
 use Rattle.bpg_import_list.proofs.record.entries.Tie as tie
 
-abbrev invariant-loop : tie.invariant-loop
+abbrev invariant-loop : tie.invariant-loop-k
 invariant-loop numbers used all₀ k₀ all k = (k ≤ used) × (all ≡ pad_entries (list_entries numbers fixed_length k))
 
-abbrev decreases-loop : tie.decreases-loop
+abbrev decreases-loop : tie.decreases-loop-k
 decreases-loop numbers used all₀ k₀ all k = used - k
 
 none : (numbers : List ℕ) (e : Entry) → e ≡ zero_entry → replicate max_entries e ≡ pad_entries (list_entries numbers fixed_length 0)
@@ -36,24 +36,22 @@ step numbers all k e h p q =
     ap₂ (λ (l : List Entry) (i : ℕ). set l i e) p (sym n) ∙ pad-snoc es e (omega arith)
     ∙ ap pad_entries (ap (λ (x : Entry). es ++ (x ∷ [])) q ∙ sym (entries-more numbers fixed_length k) ∙ ap (list_entries numbers fixed_length) (sym (add-one k)))
 
-loop-holds : tie.Need-loop-init invariant-loop decreases-loop
-loop-holds c = (omega arith, none c.before.before.args.numbers.now _ c.zero-entry.ensures)
+loop-holds : tie.Need-loop-k-init invariant-loop decreases-loop
+loop-holds c = (omega arith, none c.args.numbers.now _ c.zero_entry-none.ensures)
 
-loop-again : tie.Need-loop-preserved invariant-loop decreases-loop
+loop-again : tie.Need-loop-k-preserved invariant-loop decreases-loop
 loop-again c =
-    let l = c.before.before.loop in
-    let s = c.before.before.before.before.before in
-    (omega arith, step s.args.numbers.now l.all l.k _ (omega arith) l.invariant.1 c.entry.ensures)
+    let l = c.loop-k in
+    (omega arith, step c.args.numbers.now l.all l.k _ (omega arith) l.invariant.1 c.entry.ensures)
 
 returns : tie.Need-returns invariant-loop decreases-loop
 returns c =
-    let s = c.before.before.before.before in
-    let l = c.before.loop in
-    let n : l.k ≡ s.args.used = omega arith in
-    l.invariant.1 ∙ ap (λ (k : ℕ). pad_entries (list_entries s.args.numbers.now fixed_length k)) n
+    let l = c.loop-k in
+    let n : l.k ≡ c.args.used = omega arith in
+    l.invariant.1 ∙ ap (λ (k : ℕ). pad_entries (list_entries c.args.numbers.now fixed_length k)) n
 
-pub entries-spec : {M : Type 1} → statement M
-entries-spec =
+pub entries_spec : {M : Type 1} → statement M
+entries_spec =
     tie.close
     (tie.spec
     invariant-loop decreases-loop (λ c κs. search rules) loop-holds (λ c. omega arith) (λ c. omega arith)

@@ -12,59 +12,49 @@ use Rattle.bpg_segment_import.proofs.call.import_segments.Statement.{statement}
 use Rattle.bpg_segment_import.proofs.call.import_segments.Tie as tie
 
 -- what was found
-module _ (k : tie.After-find) where
+module _ (k : tie.After-find-found) where
   abbrev run : List ℕ
-  run = k.before.before.before.args.run.now
+  run = k.args.run.now
 
   abbrev out : List ℕ
-  out = k.before.before.before.args.out.now
+  out = k.args.out.now
 
   bytes : All Byte run
-  bytes = all-bytes run (λ i. omega (arith, k.before.before.shared-slice-known.given i))
+  bytes = all-bytes run (λ i. omega (arith, k.shared_slice_known-1.given i))
 
-returns : tie.Need-returns
+returns : tie.Need-returns-then-not-found
 returns c =
     let k = c.before.before.before in
-    let a = import-36 (run k) (out k) k.find.result k.find.ensures (not-true _ c.before.if1.true) in
-    (c.import-refused.ensures ∙ a.0, a.1)
+    let a = import-36 (run k) (out k) c.find-found.result c.find-found.ensures (not-true _ c.if-not-found.true) in
+    (c.import_refused.ensures ∙ a.0, a.1)
 
-add-if2-2 : tie.Need-overflow-add-if2-2
+add-if2-2 : tie.Need-overflow_add-exif_length-2
 add-if2-2 c =
     let k = c.before.before in
-    let n = no_longer (run k) (out k) k.find.result k.find.ensures (bytes k) (not-false _ c.if1.false) in
+    let n = no_longer (run k) (out k) c.find-found.result c.find-found.ensures (bytes k) (not-false _ c.if-not-found.false) in
     search (rules, n)
 
-returns-2 : tie.Need-returns-2
+returns-2 : tie.Need-returns-then-out-exif_length
 returns-2 c =
-    let e = c.before.before in
-    let k = e.before.before in
-    let a = import-20 (run k) (out k) k.find.result k.find.ensures (bytes k) (not-false _ e.if1.false) c.before.if2.true in
-    (c.import-refused2.ensures ∙ a.0, a.1)
+    let k = c.before.before.before.before in
+    let a = import-20 (run k) (out k) c.find-found.result c.find-found.ensures (bytes k) (not-false _ c.if-not-found.false) c.if-out-exif_length.true in
+    (c.import_refused-then-out-exif_length.ensures ∙ a.0, a.1)
 
-copy-profile-requires : tie.Need-copy-profile-requires
+copy-profile-requires : tie.Need-copy_profile-requires
 copy-profile-requires c κs =
-    let q = c.before.before.before in
-    let p = q.before.before.before.before.before in
-    let d = p.before.before.before in
-    let e = d.before in
-    let k = e.before.before in
-    let g = not-false _ e.if1.false in
-    let f = k.find.ensures in
-    (f.xmp-inside, (f.icc g, room-icc (run k) (out k) k.find.result f (bytes k) g d.if2.false p.write.ensures q.write2.ensures))
+    let k = c.before.before.before.before.before.before.before.before.before.before.before.before.before.before in
+    let g = not-false _ c.if-not-found.false in
+    let f = c.find-found.ensures in
+    (f.xmp-inside, (f.icc g, room-icc (run k) (out k) c.find-found.result f (bytes k) g c.if-out-exif_length.false c.write-p.ensures c.write-q.ensures))
 
-returns-3 : tie.Need-returns-3
+returns-3 : tie.Need-returns
 returns-3 c =
-    let w = c.before.before in
-    let q = w.before.before.before.before in
-    let p = q.before.before.before.before.before in
-    let d = p.before.before.before in
-    let e = d.before in
-    let k = e.before.before in
-    import-0 (run k) (out k) k.find.result k.find.ensures (bytes k) (not-false _ e.if1.false) d.if2.false p.write.ensures q.write2.ensures
-    w.copy-profile.ensures
+    let k = c.before.before.before.before.before.before.before.before.before.before.before.before.before.before.before.before.before in
+    import-0 (run k) (out k) c.find-found.result c.find-found.ensures (bytes k) (not-false _ c.if-not-found.false) c.if-out-exif_length.false c.write-p.ensures c.write-q.ensures
+    c.copy_profile.ensures
 
-pub import-segments-spec : {M : Type 1} → statement M
-import-segments-spec =
+pub import_segments_spec : {M : Type 1} → statement M
+import_segments_spec =
     tie.close
     (tie.spec
     (λ c κs. search rules)

@@ -6,14 +6,10 @@ use Rattle.bpg_segment_writer.proofs.emit.segment.Tie as tie
 
 returns : tie.Need-returns
 returns c =
-    let w2 = c.before.before in
-    let w1 = w2.before.before.before.before in
-    let h = w1.before.before.before.before in
-    let s = h.before.before.before.before.before in
-    segment-put s.args.out.now s.args.at.0 s.args.marker s.args.prefix.now s.args.payload.now s.requires.1
-    h.header.ensures w1.write.ensures w2.write2.ensures
+    segment-put c.args.out.now c.args.at.0 c.args.marker c.args.prefix.now c.args.payload.now c.requires.1
+    c.header-p.ensures c.write-q.ensures c.write.ensures
 
-pub segment-spec : {M : Type 1} → statement M
-segment-spec =
+pub segment_spec : {M : Type 1} → statement M
+segment_spec =
     tie.close
     (tie.spec (λ c. search rules) (λ c κs. search rules) (λ c κs. search rules) (λ c κs. search rules) (λ c. search rules) returns)

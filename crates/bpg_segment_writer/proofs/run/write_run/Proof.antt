@@ -16,7 +16,7 @@ use Rattle.bpg_segment_writer.proofs.run.write_run.Statement.{statement}
 use Rattle.bpg_segment_writer.proofs.run.write_run.Tie as tie
 
 -- the limits were judged
-module _ (w : tie.After-within-limits) where
+module _ (w : tie.After-within_limits) where
   abbrev start : tie.Start
   start = w.before.before.before.before.before
 
@@ -27,72 +27,65 @@ module _ (w : tie.After-within-limits) where
   room = start.args.out.now
 
 -- they are kept
-module _ (e : tie.Else1) where
-  kept : e.before.within-limits.result ≡ true
-  kept = not-false _ e.if1.false
+module _ (e : tie.Else-not-within_limits) where
+  kept : e.within_limits.result ≡ true
+  kept = e.if-not-within_limits.false
 
   within : Limits (all e.before)
-  within = limits (all e.before) (room e.before) _ e.before.within-limits.ensures kept
+  within = limits (all e.before) (room e.before) _ e.within_limits.ensures kept
 
   most-icc : length (start e.before).args.icc.now ≤ 16707345
   most-icc = omega (arith, within.icc, count-is (start e.before).args.icc.now)
 
 -- and the buffer is large enough
-module _ (d : tie.Else2) where
-  abbrev other : tie.Else1
+module _ (d : tie.Else-out-count) where
+  abbrev other : tie.Else-not-within_limits
   other = d.before.before
 
   enough : size_of (all other.before) ≤ length (room other.before)
-  enough = omega (arith, d.if2.left, d.before.run.ensures)
+  enough = omega (arith, d.if-out-count.false, d.run-count.ensures)
 
-returns : tie.Need-returns
+returns : tie.Need-returns-then-not-within_limits
 returns c =
     let w = c.before.before in
-    let r = run-34 (all w) (room w) _ w.within-limits.ensures (not-true _ c.before.if1.true) in
-    (c.written-refused.ensures ∙ r.0, r.1)
+    let r = run-34 (all w) (room w) _ c.within_limits.ensures (c.if-not-within_limits.true) in
+    (c.written_refused.ensures ∙ r.0, r.1)
 
-run-requires : tie.Need-run-requires
+run-requires : tie.Need-run-count-requires
 run-requires c κs = let l = within c in (l.exif, (l.xmp, most-icc c))
 
-returns-2 : tie.Need-returns-2
+returns-2 : tie.Need-returns-then-out-count
 returns-2 c =
-    let e = c.before.before.before in
-    let w = e.before in
-    let r = run-20 (all w) (room w) _ w.within-limits.ensures (kept e) (omega (arith, c.before.if2.true, c.before.before.run.ensures)) in
-    (c.written-refused2.ensures ∙ r.0, r.1)
+    let w = c.before.before.before.before in
+    let r = run-20 (all w) (room w) _ c.within_limits.ensures (kept c.before.before.before) (omega (arith, c.if-out-count.true, c.run-count.ensures)) in
+    (c.written_refused-then-out-count.ensures ∙ r.0, r.1)
 
-part-requires : tie.Need-part-requires
+part-requires : tie.Need-part-p-requires
 part-requires c κs =
-    let d = c.before.before in
+    let d = c.before.before.before in
     let w = (other d).before in
-    (omega (arith, (within (other d)).exif), room-exif (all w) (room w) _ w.within-limits.ensures (kept (other d)) (enough d))
+    (omega (arith, (within (other d)).exif), room-exif (all w) (room w) _ w.within_limits.ensures (kept (other d)) (enough d))
 
-part-requires-2 : tie.Need-part-requires-2
+part-requires-2 : tie.Need-part-q-requires
 part-requires-2 c κs =
-    let p = c.before.before.before.before in
-    let d = p.before.before.before in
+    let d = c.before.before.before.before.before.before.before.before.before in
     let w = (other d).before in
-    (omega (arith, (within (other d)).xmp), room-xmp (all w) (room w) _ w.within-limits.ensures (kept (other d)) (enough d) p.part.ensures)
+    (omega (arith, (within (other d)).xmp), room-xmp (all w) (room w) _ w.within_limits.ensures (kept (other d)) (enough d) c.part-p.ensures)
 
 profile-requires : tie.Need-profile-requires
 profile-requires c κs =
-    let q = c.before.before.before in
-    let p = q.before.before.before.before.before in
-    let d = p.before.before.before in
+    let d = c.before.before.before.before.before.before.before.before.before.before.before.before.before in
     let w = (other d).before in
-    ((within (other d)).icc, room-icc (all w) (room w) _ w.within-limits.ensures (kept (other d)) (enough d) p.part.ensures q.part2.ensures)
+    ((within (other d)).icc, room-icc (all w) (room w) _ w.within_limits.ensures (kept (other d)) (enough d) c.part-p.ensures c.part-q.ensures)
 
-returns-3 : tie.Need-returns-3
+returns-3 : tie.Need-returns
 returns-3 c =
-    let r = c.before.before in
-    let q = r.before.before.before.before in
-    let p = q.before.before.before.before.before in
-    let d = p.before.before.before in
+    let d = c.before.before.before.before.before.before.before.before.before.before.before.before.before.before.before.before in
     let w = (other d).before in
-    run-0 (all w) (room w) _ w.within-limits.ensures (kept (other d)) (enough d) p.part.ensures q.part2.ensures _ d.before.run.ensures r.profile.ensures
+    run-0 (all w) (room w) _ w.within_limits.ensures (kept (other d)) (enough d) c.part-p.ensures c.part-q.ensures _ c.run-count.ensures c.profile.ensures
 
-pub write-run-spec : {M : Type 1} → statement M
-write-run-spec =
+pub write_run_spec : {M : Type 1} → statement M
+write_run_spec =
     tie.close
     (tie.spec
     (λ c κs. search rules)
@@ -101,9 +94,7 @@ write-run-spec =
     run-requires
     (λ c κs. search rules)
     returns-2
-    (λ c. search rules)
     part-requires
-    (λ c. search rules)
     part-requires-2
     profile-requires
     (λ c. search rules)

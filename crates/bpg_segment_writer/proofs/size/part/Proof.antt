@@ -6,10 +6,9 @@ use borrow.Author.Rules.{rules}
 use Rattle.bpg_segment_writer.proofs.size.part.Statement.{statement}
 use Rattle.bpg_segment_writer.proofs.size.part.Tie as tie
 
-returns-2 : tie.Need-returns-2
+returns-2 : tie.Need-returns
 returns-2 c =
-    let s = c.before in
-    (sym (size-some s.args.prefix s.args.size c.if1.false), omega arith)
+    (sym (size-some c.args.prefix c.args.size c.if-size-eq0.false), omega arith)
 
-pub part-spec : {M : Type 1} → statement M
-part-spec = tie.close (tie.spec (λ c. search rules) (λ c. search rules) (λ c. search rules) returns-2)
+pub part_spec : {M : Type 1} → statement M
+part_spec = tie.close (tie.spec (λ c. search rules) (λ c. search rules) (λ c. search rules) returns-2)
