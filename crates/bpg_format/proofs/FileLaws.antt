@@ -28,7 +28,7 @@ use Rattle.bpg_format.specs.Content.{Flags, Extension, AnimationControl, Content
 use Rattle.bpg_format.specs.Rules.{has_animation}
 use Rattle.bpg_format.specs.Tests.{counts_to_end, no_forbidden_bit, hevc_allowed, data_allowed}
 use Rattle.bpg_format.specs.Read.{animation_of}
-use Rattle.bpg_format.specs.FileCodec.{flags, dimension, period, animation_codec, payload, extension, seen_after, extensions, block, one_bit, optional}
+use Rattle.bpg_format.specs.FileCodec.{dimension, period, animation_codec, payload, extension, seen_after, extensions, block, one_bit, optional}
 use Rattle.bpg_format.specs.FileCodec.{size_fields, pcm_fields, sps_fields, no_pcm, no_sps, field_sequence, header_fields, header, alpha_header, hevc_bytes, body, judged_body}
 use Rattle.bpg_format.specs.FileCodec.{Parts, parts, with_loop, content_from, parts_of, file}
 use Rattle.bpg_format.proofs.FlagLaws.{flags-lawful}

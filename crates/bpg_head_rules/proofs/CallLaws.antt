@@ -1,7 +1,7 @@
 -- Heads compared field by field, and what the call answers.
 use mathlib.Core.Path.{◌≡◌, refl, sym, ap, ◌∙◌, subst}
 use mathlib.Core.Bool.{Bool, true, false}
-use mathlib.Core.List.{List}
+use mathlib.Core.List.{List, ◌++◌}
 use Prim.Native.Nat.{ℕ, ◌<◌}
 use native.Mathlib.Omega.{arith}
 use lib.Dec.{T, eqb}
@@ -49,6 +49,15 @@ numbers-back h = simp flag-back
 pub numbers-means : (a b : CodedHead) → head_numbers a ≡ head_numbers b → a ≡ b
 numbers-means a b e = sym (numbers-back a) ∙ ap from_numbers e ∙ numbers-back b
 
+-- its own numbers are its own, whatever stands after them
+pub own-numbers : (h : CodedHead) (l : List ℕ) → is_head (head_numbers h ++ l) h ≡ true
+unfolding is_head
+own-numbers h l = is_true _ (same_refl (head_numbers h))
+
+pub own-head : (h : CodedHead) → is_head (head_numbers h) h ≡ true
+unfolding is_head
+own-head h = is_true _ (same_refl (head_numbers h))
+
 -- a list that begins with its numbers is its own, whatever stands after them, and no other is
 pub is-head-if : (l : List ℕ) (h : CodedHead) → take 12 l ≡ head_numbers h → is_head l h ≡ true
 unfolding is_head
@@ -57,6 +66,9 @@ is-head-if l h e = is_true _ (subst (λ (x : List ℕ). T (same x (head_numbers 
 pub is-head-means : (l : List ℕ) (h : CodedHead) → is_head l h ≡ true → take 12 l ≡ head_numbers h
 unfolding is_head
 is-head-means l h t = same-equal (take 12 l) (head_numbers h) (subst T (sym t) tt)
+
+pub same-means : (a b : CodedHead) → is_head (head_numbers a) b ≡ true → a ≡ b
+same-means a b t = sym (numbers-back a) ∙ ap from_numbers (is-head-means (head_numbers a) b t) ∙ numbers-back b
 
 -- ---- a list compared number by number
 

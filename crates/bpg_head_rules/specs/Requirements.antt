@@ -30,5 +30,5 @@ pub record HeadCall : Type 0 where
   pub refused : (f : List ℕ) → (head_file f).status ≢ 0 → head_file f ≡ refused_head_reading (head_file f).status (head_file f).offset
   pub number : (f : List ℕ) → (head_file f).status ≢ 0 → HeadStatus (head_file f).status
   -- "and never an oversize block": the file that ends where its head ends, before any block, has the same head
-  pub alone : (f : List ℕ) (h : Head) → read_head f ≡ ok h → head_file (take h.end f) ≡ head_file f
   pub never-oversize : ((head_file oversize).status ≡ 0) × ((head_file oversize).head.extension_length ≡ 127)
+  pub alone : (f : List ℕ) (h : Head) → read_head f ≡ ok h → head_file (take h.end f) ≡ head_file f

@@ -10,10 +10,10 @@ use Rattle.bpg_codec.proofs.Answers.{refused-error}
 use Rattle.bpg_format.specs.Content.{Content}
 use Rattle.bpg_format.specs.Read.{Head}
 use Rattle.bpg_format.specs.Records.{data_start}
-use Rattle.bpg_given_head.specs.Given.{read_given}
-use Rattle.bpg_given_head.proofs.GivenLaws.{none-given}
+use Rattle.bpg_read_survey.specs.Given.{read_given}
+use Rattle.bpg_read_survey.proofs.GivenLaws.{none-given}
 use Rattle.bpg_read_survey.specs.declared.rest.RestSurvey.{RestSurvey}
-use Rattle.bpg_read_survey.specs.declared.file.FileSurvey.{FileSurvey}
+use Rattle.bpg_read_survey.specs.declared.given.FileSurvey.{FileSurvey}
 use Rattle.bpg_read_survey.specs.Surveys.{survey_of, file_survey}
 use Rattle.bpg_read_survey.proofs.FileRead.{FileRead, starts, file-length}
 use Rattle.bpg_partition.specs.Partitions.{head_count, entry_head_count, payload_count, data_count, refused_partition, counts, partition_of, partition_answer}

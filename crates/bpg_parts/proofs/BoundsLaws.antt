@@ -7,9 +7,9 @@ use Prim.Native.Nat.{ℕ, ◌+◌}
 use lib.ListN.{length}
 use Rattle.bpg_codec.proofs.Answers.{refused-error}
 use Rattle.bpg_format.specs.Read.{Head}
-use Rattle.bpg_given_head.specs.Given.{read_given}
-use Rattle.bpg_given_head.proofs.GivenLaws.{none-given}
-use Rattle.bpg_read_survey.specs.declared.file.FileSurvey.{FileSurvey}
+use Rattle.bpg_read_survey.specs.Given.{read_given}
+use Rattle.bpg_read_survey.proofs.GivenLaws.{none-given}
+use Rattle.bpg_read_survey.specs.declared.given.FileSurvey.{FileSurvey}
 use Rattle.bpg_read_survey.specs.Surveys.{survey_of, file_survey}
 use Rattle.bpg_read_survey.proofs.FileRead.{FileRead, starts}
 use Rattle.bpg_parts.specs.Bounds.{bounds, bounds_of, block_bounds}

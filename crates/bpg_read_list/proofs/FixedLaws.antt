@@ -6,7 +6,7 @@ use native.Mathlib.Omega.{arith}
 use lib.ListN.{length}
 use Rattle.bpg_codec.specs.Buffer.{written}
 use Rattle.bpg_format.specs.Records.{coded_size}
-use Rattle.bpg_read_survey.specs.declared.file.FileSurvey.{FileSurvey}
+use Rattle.bpg_read_survey.specs.declared.given.FileSurvey.{FileSurvey}
 use Rattle.bpg_export_list.specs.Numbers.{fixed_length, header_numbers, headers_numbers, fixed_numbers}
 use Rattle.bpg_export_list.proofs.NumberLaws.{Filled}
 use Rattle.bpg_read_list.specs.Surveyed.{first_numbers, survey_numbers}

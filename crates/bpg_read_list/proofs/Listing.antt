@@ -18,7 +18,7 @@ use Rattle.bpg_format.specs.Records.{entries_at, pad_entries, used_entries, read
 use Rattle.bpg_format.proofs.RecordLaws.{entries-length}
 use Rattle.bpg_read_entries.specs.declared.entry.EntryReading.{EntryReading}
 use Rattle.bpg_read_entries.specs.Entries.{entry_head_answer, entry_in}
-use Rattle.bpg_read_survey.specs.declared.file.FileSurvey.{FileSurvey}
+use Rattle.bpg_read_survey.specs.declared.given.FileSurvey.{FileSurvey}
 use Rattle.bpg_read_survey.proofs.FileRead.{FileRead, counted}
 use Rattle.bpg_read_survey.proofs.Walking.{Walking, passed, passed-next, walks, walked, start_is, tag-offset-is}
 use Rattle.bpg_reader.specs.Assembled.{assembled_reading}

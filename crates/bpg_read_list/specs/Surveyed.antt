@@ -5,7 +5,7 @@ use Rattle.bpg_ue7.specs.Ue7.{not_zero}
 use Rattle.bpg_format.specs.Records.{coded_size}
 use Rattle.bpg_read_head.specs.declared.head.Head.{Head}
 use Rattle.bpg_read_animation.specs.declared.animation.Animation.{Animation}
-use Rattle.bpg_read_survey.specs.declared.file.FileSurvey.{FileSurvey}
+use Rattle.bpg_read_survey.specs.declared.given.FileSurvey.{FileSurvey}
 use Rattle.bpg_reader.specs.Assembled.{assembled_record}
 use Rattle.bpg_export_list.specs.Numbers.{fixed_numbers}
 

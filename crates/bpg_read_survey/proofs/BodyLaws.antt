@@ -24,11 +24,10 @@ use Rattle.bpg_read_entries.specs.declared.block.Block.{Block}
 use Rattle.bpg_read_entries.specs.Blocks.{block_answer}
 use Rattle.bpg_read_headers.specs.declared.headers.HeadersReading.{HeadersReading}
 use Rattle.bpg_read_headers.specs.BothHeaders.{headers_answer}
-use Rattle.bpg_given_head.specs.declared.Stop.{Stop}
-use Rattle.bpg_given_head.specs.BeforeBody.{stop}
-use Rattle.bpg_given_head.proofs.ContentSteps.{content-body}
-use Rattle.bpg_read_survey.specs.Bodies.{HeadRead, headers_start, body_content, after_headers}
+use Rattle.bpg_read_survey.specs.Bodies.{HeadRead, headers_start, body_content, stop, after_headers}
 use Rattle.bpg_read_survey.specs.Surveys.{refused_survey, survey_of}
+use Rattle.bpg_read_survey.specs.declared.rest.Stop.{Stop}
+use Rattle.bpg_read_survey.proofs.ContentSteps.{content-body}
 use Rattle.bpg_read_survey.proofs.BodyChain.{headers_of, from_data, from_headers, after_block, headers-inside, body-chain}
 
 -- ---- the block

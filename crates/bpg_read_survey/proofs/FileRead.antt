@@ -27,14 +27,14 @@ use Rattle.bpg_read_entries.specs.declared.block.Block.{Block}
 use Rattle.bpg_read_headers.specs.declared.headers.HeadersReading.{HeadersReading}
 use Rattle.bpg_read_headers.specs.BothHeaders.{headers_answer}
 use Rattle.bpg_head_rules.specs.declared.CodedHead.{CodedHead}
-use Rattle.bpg_given_head.specs.Given.{read_given}
-use Rattle.bpg_given_head.proofs.GivenLaws.{given-accepted, given-not-zero}
 use Rattle.bpg_read_survey.specs.declared.rest.RestSurvey.{RestSurvey}
-use Rattle.bpg_read_survey.specs.declared.file.FileSurvey.{FileSurvey}
+use Rattle.bpg_read_survey.specs.declared.given.FileSurvey.{FileSurvey}
+use Rattle.bpg_read_survey.specs.Given.{read_given}
 use Rattle.bpg_read_survey.specs.Bodies.{head_fields, body_content}
 use Rattle.bpg_read_survey.specs.Surveys.{survey_of, file_survey}
 use Rattle.bpg_read_survey.proofs.HeadOf.{head_of, head-of}
 use Rattle.bpg_read_survey.proofs.BodyLaws.{BodyRead}
+use Rattle.bpg_read_survey.proofs.GivenLaws.{given-accepted, given-not-zero}
 
 -- ---- the answer for a body that was read
 

@@ -1,8 +1,9 @@
 -- Laws of surveying a file.
 pub mod HeadOf
 pub mod EntryBlock
+pub mod ContentSteps
 pub mod BodyChain
 pub mod BodyLaws
-pub mod BeforeBody
+pub mod GivenLaws
 pub mod FileRead
 pub mod Walking

@@ -8,7 +8,7 @@ use Rattle.bpg_read_head.specs.Heads.{head_answer}
 use Rattle.bpg_read_entries.specs.Blocks.{refused_block, block_answer}
 use Rattle.bpg_read_headers.specs.BothHeaders.{refused_headers, headers_answer}
 use Rattle.bpg_read_survey.specs.declared.rest.RestSurvey.{RestSurvey}
-use Rattle.bpg_read_survey.specs.declared.file.FileSurvey.{FileSurvey}
+use Rattle.bpg_read_survey.specs.declared.given.FileSurvey.{FileSurvey}
 
 abbrev pub refused_survey : (status offset : ℕ) → RestSurvey
 refused_survey s o = record { status = s; offset = byte_pos o; block = refused_block 0 0; both = refused_headers 0 0 }

@@ -1,8 +1,8 @@
 // Surveying a BPG file: all that reading finds but for the entries, or a refusal; from the start, or on from a head that the caller has.
 #![tactic(auto)]
 
-mod file;
+mod given;
 mod rest;
 
-pub use file::{FileSurvey, survey};
+pub use given::{FileSurvey, survey};
 pub use rest::RestSurvey;

@@ -8,7 +8,6 @@ ghost use Rattle.bpg_read_survey.specs.Surveys.{refused_survey, survey_of};
 
 use bpg_bytes::BytePos;
 use bpg_format::{data_allowed, has_alpha};
-use bpg_given_head::Stop;
 use bpg_read_entries::block;
 use bpg_read_entries::block::Block;
 use bpg_read_head::head::Head;
@@ -43,6 +42,13 @@ fn reaches_end(data_length: u32, size: usize) -> bool
     ensures { result ≡ counts_to_end data_length size }
 {
     (data_length == 0) | (data_length as usize == size)
+}
+
+// Where reading stops, or status 0.
+#[derive(Clone, Copy)]
+pub struct Stop {
+    pub status: u8,
+    pub offset: BytePos,
 }
 
 // Refusal 26, at the first data byte, where the headers were not refused. One test then follows for both: where many branches lead to a

@@ -13,20 +13,20 @@ use Rattle.bpg_format.specs.Read.{read_content}
 use Rattle.bpg_format.specs.Records.{answer_of, read_file}
 use Rattle.bpg_head_rules.specs.declared.CodedHead.{CodedHead}
 use Rattle.bpg_head_rules.specs.Calls.{head_numbers}
-use Rattle.bpg_given_head.specs.Given.{read_given}
-use Rattle.bpg_given_head.specs.BeforeBody.{is_own}
-use Rattle.bpg_given_head.proofs.GivenLaws.{none-given}
-use Rattle.bpg_read_survey.specs.declared.file.FileSurvey.{FileSurvey}
+use Rattle.bpg_read_survey.specs.Given.{read_given}
+use Rattle.bpg_read_survey.specs.declared.given.FileSurvey.{FileSurvey}
+use Rattle.bpg_read_survey.specs.Bodies.{asked}
+use Rattle.bpg_read_survey.proofs.GivenLaws.{none-given}
 use Rattle.bpg_read_survey.specs.Surveys.{survey_of, file_survey}
 use Rattle.bpg_reader.specs.Calls.{body_list, body_file, either_reading, verdict_of}
 
-pub either : (given : List ℕ) (is_given : Bool) (file : List ℕ) → answer_of (read_given (is_own is_given given) file) ≡ either_reading is_given given file
+pub either : (given : List ℕ) (is_given : Bool) (file : List ℕ) → answer_of (read_given (asked is_given given) file) ≡ either_reading is_given given file
 unfolding select body_list read_file
 either given true file = refl
 either given false file = ap answer_of (none-given file)
 
 -- a file that was read on from the head that it has is read
-pub answered : (given : List ℕ) (is_given : Bool) (file : List ℕ) → read_given (is_own is_given given) file ≡ read_content file → read_file file ≡ either_reading is_given given file
+pub answered : (given : List ℕ) (is_given : Bool) (file : List ℕ) → read_given (asked is_given given) file ≡ read_content file → read_file file ≡ either_reading is_given given file
 unfolding read_file
 answered given is_given file e = ap answer_of (sym e) ∙ either given is_given file
 

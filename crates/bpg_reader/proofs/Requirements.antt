@@ -24,13 +24,13 @@ use Rattle.bpg_head_rules.specs.declared.CodedHead.{CodedHead}
 use Rattle.bpg_head_rules.specs.Calls.{coded_head, head_reading, head_file, HeadStatus, head_numbers, is_head}
 use Rattle.bpg_head_rules.proofs.CallLaws.{numbers-means, is-head-if, is-head-means}
 use Rattle.bpg_head_rules.proofs.HeadRefusals.{head-refuses}
-use Rattle.bpg_given_head.specs.Given.{read_given, BodyStatus}
+use Rattle.bpg_read_survey.specs.Given.{read_given, BodyStatus}
 use Rattle.bpg_reader.specs.Calls.{body_list, body_file}
-use Rattle.bpg_reader.specs.Requirements.{head_of_content, HeadFirst, BodyRefusals}
+use Rattle.bpg_reader.specs.Requirements.{head_of_content, HeadFirst, BodyRefusals, BodyListRefusals}
 use Rattle.bpg_read_survey.proofs.HeadOf.{head-of}
 use Rattle.bpg_reader.proofs.FileLaws.{too_long}
-use Rattle.bpg_given_head.proofs.ContentSteps.{content-error, content-body}
-use Rattle.bpg_given_head.proofs.GivenLaws.{given-long, given-refused, given-other, given-same, given-refuses}
+use Rattle.bpg_read_survey.proofs.ContentSteps.{content-error, content-body}
+use Rattle.bpg_read_survey.proofs.GivenLaws.{given-long, given-refused, given-other, given-same, given-refuses}
 
 -- ---- a file by its head
 
@@ -124,16 +124,27 @@ refused given f n = by (read_given (is_head given) f) n
     by (ok c) n = absurd (n refl)
     by (error s o) n = refl
 
-pub body-refusals : BodyRefusals
-body-refusals =
+pub body-list-refusals : BodyListRefusals
+body-list-refusals =
     record {
       long = body-long;
       head = body-head;
-      other-head = other-head;
-      same_head = λ given f e. ap (λ (g : CodedHead). body_file g f) e ∙ own-head f;
       other-numbers = other-numbers;
       short-list = short-list;
       same_numbers = same_numbers;
       number = number;
       refused = refused;
+    }
+
+-- ---- any head
+
+pub body-refusals : BodyRefusals
+body-refusals =
+    record {
+      long = λ given. body-long (head_numbers given);
+      head = λ given. body-head (head_numbers given);
+      other-head = other-head;
+      same_head = λ given f e. ap (λ (g : CodedHead). body_file g f) e ∙ own-head f;
+      number = λ given. number (head_numbers given);
+      refused = λ given. refused (head_numbers given);
     }

@@ -5,7 +5,7 @@ use Rattle.bpg_format.specs.declared.answer.Reading.{Reading}
 use Rattle.bpg_format.specs.Records.{answer_of, read_file}
 use Rattle.bpg_head_rules.specs.declared.CodedHead.{CodedHead}
 use Rattle.bpg_head_rules.specs.Calls.{head_numbers, is_head}
-use Rattle.bpg_given_head.specs.Given.{read_given}
+use Rattle.bpg_read_survey.specs.Given.{read_given}
 use Rattle.bpg_reader.specs.declared.file.Verdict.{Verdict}
 
 -- what `body` answers: with the head's numbers in a list, and with the head

@@ -7,7 +7,7 @@ use native.Mathlib.Nat.{sub-zero}
 use native.Mathlib.Omega.{arith}
 use borrow.Author.Rules.{rules}
 use Rattle.bpg_codec.proofs.Tokens.{all-bytes}
-use Rattle.bpg_read_survey.specs.declared.file.FileSurvey.{FileSurvey}
+use Rattle.bpg_read_survey.specs.declared.given.FileSurvey.{FileSurvey}
 use Rattle.bpg_read_survey.proofs.FileRead.{FileRead, survey-read, short, data-inside}
 use Rattle.bpg_read_survey.proofs.Walking.{begins, end-inside}
 use Rattle.bpg_partition.specs.Partitions.{payload_count}

@@ -5,7 +5,7 @@ use Prim.Native.Nat.{ℕ}
 use native.Mathlib.Omega.{arith}
 use borrow.Author.Rules.{rules}
 use Rattle.bpg_codec.proofs.Tokens.{all-bytes}
-use Rattle.bpg_read_survey.specs.declared.file.FileSurvey.{FileSurvey}
+use Rattle.bpg_read_survey.specs.declared.given.FileSurvey.{FileSurvey}
 use Rattle.bpg_read_survey.proofs.FileRead.{FileRead, survey-read, short}
 use Rattle.bpg_read_survey.proofs.Walking.{end-inside}
 use Rattle.bpg_parts.proofs.BoundsLaws.{refused-bounds, accepted-bounds}

@@ -14,8 +14,8 @@ use Rattle.bpg_format.specs.declared.answer.Reading.{Reading}
 use Rattle.bpg_format.specs.Zero.{refused_reading, refused_written}
 use Rattle.bpg_format.specs.Records.{read_file}
 use Rattle.bpg_head_rules.specs.declared.CodedHead.{CodedHead}
-use Rattle.bpg_read_survey.specs.declared.file.FileSurvey.{FileSurvey}
-use Rattle.bpg_given_head.specs.BeforeBody.{is_own}
+use Rattle.bpg_read_survey.specs.declared.given.FileSurvey.{FileSurvey}
+use Rattle.bpg_read_survey.specs.Bodies.{asked}
 use Rattle.bpg_read_survey.proofs.FileRead.{FileRead, survey-refused, survey-read, counted, short, data-inside, min-cb-small}
 use Rattle.bpg_read_survey.proofs.Walking.{begins, end-inside, ends-inside, length-small}
 use Rattle.bpg_reader.specs.Calls.{either_reading}
@@ -46,8 +46,8 @@ module _ (c : tie.After-survey invariant-loop decreases-loop) where
   abbrev numbers : List ℕ
   numbers = start.args.numbers.now
 
-  abbrev own : CodedHead → Bool
-  own = is_own start.args.is-given start.args.given.now
+  abbrev is_asked : CodedHead → Bool
+  is_asked = asked start.args.is-given start.args.given.now
 
   abbrev found : FileSurvey
   found = c.survey.result
@@ -67,10 +67,10 @@ module _ (c : tie.Else1 invariant-loop decreases-loop) where
   s = surveyed c
 
   whole : FileRead (file s) (found s).head (found s).rest
-  whole = (survey-read (own s) (file s) (found s) s.survey.ensures (bytes s) c.if1.false).0
+  whole = (survey-read (is_asked s) (file s) (found s) s.survey.ensures (bytes s) c.if1.false).0
 
   asked-for : read_file (file s) ≡ reading s
-  asked-for = answered _ _ (file s) (survey-read (own s) (file s) (found s) s.survey.ensures (bytes s) c.if1.false).1
+  asked-for = answered _ _ (file s) (survey-read (is_asked s) (file s) (found s) s.survey.ensures (bytes s) c.if1.false).1
 
   few : (found s).rest.block.entry_count ≤ 64
   few = omega (arith, counted whole, whole.rules.entry-limit)
@@ -88,7 +88,7 @@ returns : tie.Need-returns invariant-loop decreases-loop
 returns c =
     let s = c.before.before.before.before.before in
     let t = (found s).rest in
-    let e = survey-refused (own s) (file s) (found s) s.survey.ensures c.before.if1.true ∙ either _ (start s).args.is-given _ in
+    let e = survey-refused (is_asked s) (file s) (found s) s.survey.ensures c.before.if1.true ∙ either _ (start s).args.is-given _ in
     let a =
     subst (λ (r : Reading). Answers (numbers s) r (refused_written t.status t.offset.0) (numbers s)) e
     (file-refused (numbers s) (refused_reading t.status t.offset.0) c.before.if1.true)

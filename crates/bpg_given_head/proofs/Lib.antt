@@ -1,3 +1,0 @@
--- Laws of reading on from a head.
-pub mod ContentSteps
-pub mod GivenLaws
