@@ -4,6 +4,7 @@ use mathlib.Core.List.{List, [], ◌∷◌}
 use Prim.Native.Nat.{ℕ, ◌+◌}
 use native.Mathlib.Omega.{arith}
 use lib.ListN.{length}
+use Rattle.bpg_ue7.specs.Ue7.{ue7_bytes}
 use Rattle.bpg_format.specs.Content.{Extension, Content}
 use Rattle.bpg_format.specs.Syntax.{block_bytes, file_of}
 use Rattle.bpg_format.specs.Rules.{Rules}
@@ -36,7 +37,7 @@ adds-up c r = omega (arith, data-end c r, data-start c, block-count c.extensions
 pub entries-payloads : (p : ℕ) (es : List Extension) → payload_bytes (entries_at p es) ≡ payload_count es
 unfolding payload_bytes payload_count
 entries-payloads p [] = refl
-entries-payloads p (e ∷ es) = ap (λ (n : ℕ). length e.payload + n) (entries-payloads _ es)
+entries-payloads p (e ∷ es) = ap (λ (n : ℕ). length e.payload + n) (entries-payloads (p + length (ue7_bytes e.tag) + length (ue7_bytes (length e.payload)) + length e.payload) es)
 
 pub record-payloads : (c : Content) → payload_bytes (used_entries (record_of c)) ≡ payload_count c.extensions
 unfolding record_of

@@ -6,13 +6,12 @@ use Rattle.bpg_head_rules.specs.Calls.{is_head}
 use Rattle.bpg_read_survey.proofs.given.is_own.Statement.{statement}
 use Rattle.bpg_read_survey.proofs.given.is_own.Tie as tie
 
-returns : tie.Need-returns
-returns c = rw (not-true c.before.before.args.is-given c.if1.true)
+returns : tie.Need-returns-then-not-is_given
+returns c = rw (c.if-not-is_given.true)
 
-returns-2 : tie.Need-returns-2
+returns-2 : tie.Need-returns
 returns-2 c =
-    let e = c.before.before in
-    rw (not-false e.before.before.args.is-given e.if1.false) (c.is-head.ensures ∙ ap (is_head _) c.before.coded.ensures)
+    rw (c.if-not-is_given.false) (c.is_head.ensures ∙ ap (is_head _) c.coded-own.ensures)
 
-pub is-own-spec : {M : Type 1} → statement M
-is-own-spec = tie.close (tie.spec returns (λ c κs. search rules) (λ c κs. search rules) returns-2)
+pub is_own_spec : {M : Type 1} → statement M
+is_own_spec = tie.close (tie.spec returns (λ c κs. search rules) (λ c κs. search rules) returns-2)

@@ -23,7 +23,7 @@ use Rattle.bpg_read_survey.proofs.given.survey.Tie as tie
 abbrev with : PlacedHead → RestSurvey → FileSurvey
 with h s = record { head = h; rest = s }
 
-module _ (c : tie.After-before-body) where
+module _ (c : tie.After-before_body-stop) where
   abbrev start : tie.Start
   start = c.before.before.before.before
 
@@ -31,30 +31,28 @@ module _ (c : tie.After-before-body) where
   file = start.args.file.now
 
   abbrev is_asked : CodedHead → Bool
-  is_asked = asked start.args.is-given start.args.given.now
+  is_asked = asked start.args.is_given start.args.given.now
 
   bytes : All Byte file
-  bytes = all-bytes file (λ i. omega (arith, c.before.before.before.shared-slice-known.given i))
+  bytes = all-bytes file (λ i. omega (arith, c.shared_slice_known-1.given i))
 
-known : (c : tie.Else1) → let j = c.before.before in
-    HeadRead (file j) (head_fields j.before.read.result)
-    × (read_body (head_fields j.before.read.result) (drop j.before.read.result.end.0 (file j)) ≡ read_given (is_asked j) (file j))
+known : (c : tie.Else-stop-ne0) → HeadRead (file c.before.before) (head_fields c.read-head.result)
+    × (read_body (head_fields c.read-head.result) (drop c.read-head.result.end.0 (file c.before.before)) ≡ read_given (is_asked c.before.before) (file c.before.before))
 known c =
     let j = c.before.before in
-    goes_on (is_asked j) (file j) j.before.read.result j.before.read.ensures (bytes j) j.before-body.result j.before-body.ensures c.if1.false
+    goes_on (is_asked j) (file j) c.read-head.result c.read-head.ensures (bytes j) c.before_body-stop.result c.before_body-stop.ensures c.if-stop-ne0.false
 
-returns : tie.Need-returns
+returns : tie.Need-returns-then-stop-ne0
 returns c =
-    let j = c.before.before.before in
-    ap₂ with j.before.read.ensures
-    (c.refused.ensures
-    ∙ stopped (is_asked j) (file j) j.before.read.result j.before.read.ensures (bytes j) j.before-body.result j.before-body.ensures c.before.if1.true)
+    let j = c.before.before.before.before in
+    ap₂ with c.read-head.ensures
+    (c.refused-rest.ensures
+    ∙ stopped (is_asked j) (file j) c.read-head.result c.read-head.ensures (bytes j) c.before_body-stop.result c.before_body-stop.ensures c.if-stop-ne0.true)
 
-returns-2 : tie.Need-returns-2
+returns-2 : tie.Need-returns
 returns-2 c =
-    let j = c.before.before.before in
-    ap₂ with j.before.read.ensures (c.read2.ensures ∙ ap (survey_of (length (file j))) (known c.before).1)
+    ap₂ with c.read-head.ensures (c.read-rest.ensures ∙ ap (survey_of (length (file c.before.before.before))) (known c.before).1)
 
-pub survey-spec : {M : Type 1} → statement M
-survey-spec =
+pub survey_spec : {M : Type 1} → statement M
+survey_spec =
     tie.close (tie.spec (λ c κs. search rules) (λ c κs. search rules) (λ c κs. search rules) returns (λ c κs. (known c).0) returns-2)

@@ -10,34 +10,34 @@ use Rattle.bpg_read_survey.proofs.BodyLaws.{to_end, stops-there, data-stops, goe
 use Rattle.bpg_read_survey.proofs.rest.after_headers.Statement.{statement}
 use Rattle.bpg_read_survey.proofs.rest.after_headers.Tie as tie
 
-returns : tie.Need-returns
-returns c = let a = c.before.before.args in stops-there a.file.now _ _ a.next.0 c.if1.true
+returns : tie.Need-returns-then-status-ne0
+returns c = let a = c.args in stops-there a.file.now _ _ a.next.0 c.if-status-ne0.true
 
-inside : tie.Need-overflow-sub-data-allowed
-inside c = c.before.before.requires c.if1.false
+inside : tie.Need-slice_bounds-data_allowed-count
+inside c = c.requires c.if-status-ne0.false
 
 -- the data was judged
-module _ (c : tie.After-data-allowed) where
-  abbrev read : tie.Else1
+module _ (c : tie.After-data_allowed) where
+  abbrev read : tie.Else-status-ne0
   read = c.before.before
 
   abbrev file : List ℕ
-  file = read.before.before.args.file.now
+  file = read.args.file.now
 
   abbrev start : ℕ
-  start = read.before.before.args.next.0
+  start = read.args.next.0
 
-  data_is : c.data-allowed.result ≡ data_allowed (drop start file)
-  data_is = c.data-allowed.ensures ∙ ap data_allowed (to_end file start)
+  data_is : c.data_allowed.result ≡ data_allowed (drop start file)
+  data_is = c.data_allowed.ensures ∙ ap data_allowed (to_end file start)
 
-returns-2 : tie.Need-returns-2
-returns-2 c = data-stops _ _ _ _ (read c.before).if1.left (sym (data_is c.before) ∙ not-true _ c.if2.true)
+returns-2 : tie.Need-returns-then-not-data_allowed
+returns-2 c = data-stops _ _ _ _ (read c.before).if-status-ne0.false (sym (data_is c.before) ∙ c.if-not-data_allowed.true)
 
-returns-3 : tie.Need-returns-3
-returns-3 c = goes_on (file c.before) _ _ (start c.before) (read c.before).if1.left (sym (data_is c.before) ∙ not-false _ c.if2.false)
+returns-3 : tie.Need-returns
+returns-3 c = goes_on (file c.before) _ _ (start c.before) (read c.before).if-status-ne0.false (sym (data_is c.before) ∙ c.if-not-data_allowed.false)
 
-pub after-headers-spec : {M : Type 1} → statement M
-after-headers-spec =
+pub after_headers_spec : {M : Type 1} → statement M
+after_headers_spec =
     tie.close
     (tie.spec
     returns inside (λ c. inside c) (λ c. search rules) (λ c κs. search rules) returns-2 returns-3)

@@ -5,19 +5,18 @@ use borrow.Author.Rules.{rules}
 use Rattle.bpg_read_survey.proofs.rest.entries.Statement.{statement}
 use Rattle.bpg_read_survey.proofs.rest.entries.Tie as tie
 
-returns : tie.Need-returns
-returns c = c.refused.ensures ∙ block-too-large c.before.before.before.before.before.requires c.before.if1.true
+returns : tie.Need-returns-then-file-head
+returns c = c.refused.ensures ∙ block-too-large c.requires c.if-file-head.true
 
-returns-2 : tie.Need-returns-2
-returns-2 c = c.none.ensures ∙ block-empty c.before.before.before.before.before.before.requires c.before.if2.true
+returns-2 : tie.Need-returns-then-length-eq0
+returns-2 c = c.none.ensures ∙ block-empty c.requires c.if-length-eq0.true
 
-returns-3 : tie.Need-returns-3
+returns-3 : tie.Need-returns
 returns-3 c =
-    let e = c.before.before.before.before in
-    c.read.ensures ∙ block-region e.before.before.before.before.requires e.if1.false
+    c.read.ensures ∙ block-region c.requires c.if-file-head.false
 
-pub entries-spec : {M : Type 1} → statement M
-entries-spec =
+pub entries_spec : {M : Type 1} → statement M
+entries_spec =
     tie.close
     (tie.spec
     (λ c. search rules)

@@ -6,11 +6,10 @@ use Rattle.bpg_reader.proofs.answer.assemble.Tie as tie
 
 returns : tie.Need-returns
 returns c =
-    let s = c.before.before.before.before.before in
-    let coded = coded-allowed s.args.both.color in
-    rw (coded _ _ s.requires.1.1 c.before.coded-size.ensures, coded _ _ s.requires.1.1 c.coded-size2.ensures, c.before.before.«record».ensures)
+    let coded = coded-allowed c.args.both.color in
+    rw (coded _ _ c.requires.1.1 c.coded_size.ensures, coded _ _ c.requires.1.1 c.coded_size-2.ensures, c.record-record.ensures)
 
-pub assemble-spec : {M : Type 1} → statement M
-assemble-spec =
+pub assemble_spec : {M : Type 1} → statement M
+assemble_spec =
     tie.close
     (tie.spec (λ c. search rules) (λ c κs. search rules) (λ c κs. search rules) (λ c κs. search rules) returns)

@@ -6,7 +6,7 @@ use Rattle.bpg_reader.proofs.answer.record.Statement.{statement}
 use Rattle.bpg_reader.proofs.answer.record.Tie as tie
 
 returns : tie.Need-returns
-returns c = let e = ap (λ (r : Record). r.entries) c.before.before.before.before.before.before.zero-record.ensures in rw e
+returns c = let e = ap (λ (r : Record). r.entries) c.zero_record-zero.ensures in rw e
 
-pub record-spec : {M : Type 1} → statement M
-record-spec = tie.close (tie.spec (λ c κs. search rules) (λ c. search rules) (λ c. search rules) (λ c. search rules) returns)
+pub record_spec : {M : Type 1} → statement M
+record_spec = tie.close (tie.spec (λ c κs. search rules) (λ c. search rules) (λ c. search rules) (λ c. search rules) returns)

@@ -9,11 +9,11 @@ use Rattle.bpg_reader.proofs.FileLaws.{exact}
 use Rattle.bpg_reader.proofs.file.read.Statement.{statement}
 use Rattle.bpg_reader.proofs.file.read.Tie as tie
 
-bytes : (c : tie.After-shared-slice-known) → All Byte c.before.args.file.now
-bytes c = all-bytes c.before.args.file.now (λ i. omega (arith, c.shared-slice-known.given i))
+bytes : (c : tie.After-shared_slice_known-1) → All Byte c.args.file.now
+bytes c = all-bytes c.args.file.now (λ i. omega (arith, c.shared_slice_known-1.given i))
 
 returns : tie.Need-returns
-returns c = exact _ (bytes c.before.before) _ (c.read-or-body.ensures ∙ select-false _ _ refl)
+returns c = exact _ (bytes c.before.before) _ (c.read_or_body.ensures ∙ select-false _ _ refl)
 
 pub read_spec : {M : Type 1} → statement M
 read_spec = tie.close (tie.spec (λ c. search rules) (λ c κs. search rules) returns)

@@ -23,15 +23,15 @@ use Rattle.bpg_reader.proofs.Filling.{Filling, no-entries, fills, full}
 use Rattle.bpg_reader.proofs.file.read_or_body.Statement.{statement}
 use Rattle.bpg_reader.proofs.file.read_or_body.Tie as tie
 
-abbrev invariant-loop : tie.invariant-loop
+abbrev invariant-loop : tie.invariant-loop-k
 invariant-loop file given is_given reading record₀ count end next₀ k₀ «record» next k = Filling file count end record₀ next₀.0 «record» next.0 k
 
-abbrev decreases-loop : tie.decreases-loop
+abbrev decreases-loop : tie.decreases-loop-k
 decreases-loop file given is_given reading record₀ count end next₀ k₀ «record» next k = count - k
 
 -- ---- the file was surveyed
 
-module _ (c : tie.After-survey invariant-loop decreases-loop) where
+module _ (c : tie.After-survey-found invariant-loop decreases-loop) where
   abbrev start : tie.Start invariant-loop decreases-loop
   start = c.before.before.before
 
@@ -39,94 +39,90 @@ module _ (c : tie.After-survey invariant-loop decreases-loop) where
   file = start.args.file.now
 
   abbrev is_asked : CodedHead → Bool
-  is_asked = asked start.args.is-given start.args.given.now
+  is_asked = asked start.args.is_given start.args.given.now
 
   abbrev found : FileSurvey
-  found = c.survey.result
+  found = c.survey-found.result
 
   bytes : All Byte file
-  bytes = all-bytes file (λ i. omega (arith, c.before.before.shared-slice-known.given i))
+  bytes = all-bytes file (λ i. omega (arith, c.shared_slice_known-1.given i))
 
-abbrev surveyed : tie.Else1 invariant-loop decreases-loop → tie.After-survey invariant-loop decreases-loop
+abbrev surveyed : tie.Else-rest-ne0 invariant-loop decreases-loop → tie.After-survey-found invariant-loop decreases-loop
 surveyed c = c.before.before.before.before
 
-module _ (c : tie.Else1 invariant-loop decreases-loop) where
-  abbrev s : tie.After-survey invariant-loop decreases-loop
+module _ (c : tie.Else-rest-ne0 invariant-loop decreases-loop) where
+  abbrev s : tie.After-survey-found invariant-loop decreases-loop
   s = surveyed c
 
   whole : FileRead (file s) (found s).head (found s).rest
-  whole = (survey-read (is_asked s) (file s) (found s) s.survey.ensures (bytes s) c.if1.false).0
+  whole = (survey-read (is_asked s) (file s) (found s) s.survey-found.ensures (bytes s) c.if-rest-ne0.false).0
 
   -- what reading answers is asked for
-  asked-for : read_file (file s) ≡ either_reading (start s).args.is-given (start s).args.given.now (file s)
-  asked-for = answered _ _ (file s) (survey-read (is_asked s) (file s) (found s) s.survey.ensures (bytes s) c.if1.false).1
+  asked-for : read_file (file s) ≡ either_reading (start s).args.is_given (start s).args.given.now (file s)
+  asked-for = answered _ _ (file s) (survey-read (is_asked s) (file s) (found s) s.survey-found.ensures (bytes s) c.if-rest-ne0.false).1
 
 -- where the loop begins
-abbrev entered : tie.After-next invariant-loop decreases-loop → tie.Else1 invariant-loop decreases-loop
-entered c = c.before.before.before.before.before.before.before.before
+abbrev entered : tie.After-next-1 invariant-loop decreases-loop → tie.Else-rest-ne0 invariant-loop decreases-loop
+entered c = c.before.before.before.before.before.before.before.before.before.before
 
 -- ---- the answers
 
-returns : tie.Need-returns invariant-loop decreases-loop
+returns : tie.Need-returns-then-rest-ne0 invariant-loop decreases-loop
 returns c =
     let s = c.before.before.before.before.before in
-    c.reading-refused.ensures ∙ survey-refused (is_asked s) (file s) (found s) s.survey.ensures c.before.if1.true ∙ either _ (start s).args.is-given _
+    c.reading_refused.ensures ∙ survey-refused (is_asked s) (file s) (found s) c.survey-found.ensures c.if-rest-ne0.true ∙ either _ (start s).args.is_given _
 
 assemble-requires : tie.Need-assemble-requires invariant-loop decreases-loop
-assemble-requires c κs = let w = whole c.before.before in (short w, (data-inside w, min-cb-small w))
+assemble-requires c κs = let w = whole c.before.before.before.before in (short w, (data-inside w, min-cb-small w))
 
-returns-2 : tie.Need-returns-2 invariant-loop decreases-loop
-returns-2 c = let e = c.before.before.before in c.assemble.ensures ∙ assembled-empty (whole e) c.before.if2.true ∙ asked-for e
+returns-2 : tie.Need-returns-then-rest-eq0 invariant-loop decreases-loop
+returns-2 c =
+    let e = c.before.before.before.before.before in
+    c.assemble.ensures ∙ assembled-empty (whole e) c.if-rest-eq0.true ∙ asked-for e
 
-assemble-requires-2 : tie.Need-assemble-requires-2 invariant-loop decreases-loop
-assemble-requires-2 c κs = let w = whole c.before.before in (short w, (data-inside w, min-cb-small w))
+assemble-requires-2 : tie.Need-assemble-reading-requires invariant-loop decreases-loop
+assemble-requires-2 c κs = let w = whole c.before.before.before.before in (short w, (data-inside w, min-cb-small w))
 
-add-end : tie.Need-overflow-add-end invariant-loop decreases-loop
-add-end c = let w = whole c.before.before.before.before.before.before.before in omega (arith, end-inside w, short w)
+add-end : tie.Need-overflow_add-end invariant-loop decreases-loop
+add-end c = let w = whole c.before.before.before.before.before.before.before.before.before in omega (arith, end-inside w, short w)
 
 -- ---- the loop
 
-loop-holds : tie.Need-loop-init invariant-loop decreases-loop
+loop-holds : tie.Need-loop-k-init invariant-loop decreases-loop
 loop-holds c =
-    no-entries _ (ap (λ (r : Reading). r.«record».entries) c.before.before.before.before.before.assemble2.ensures) (begins (whole (entered c)))
+    no-entries _ (ap (λ (r : Reading). r.«record».entries) c.assemble-reading.ensures) (begins (whole (entered c)))
 
-part_end : tie.Need-slice-bounds-read-checked-end invariant-loop decreases-loop
+part_end : tie.Need-slice_bounds-read_checked-end invariant-loop decreases-loop
 part_end c = end-inside (whole (entered c.before.before))
 
-stored : tie.Need-element-set-from-entry invariant-loop decreases-loop
+stored : tie.Need-bounds-record-k invariant-loop decreases-loop
 stored c =
-    let l = c.before.before.before in
-    omega (arith, l.loop-test.true, l.before.loop.invariant.walking.few)
+    omega (arith, c.loop-k-test.true, c.loop-k.invariant.walking.few)
 
-multiplied : tie.Need-overflow-mul-entry invariant-loop decreases-loop
+multiplied : tie.Need-offset_bounds-record-k invariant-loop decreases-loop
 multiplied c =
-    let l = c.before.before.before in
-    omega (arith, l.loop-test.true, l.before.loop.invariant.walking.few)
+    omega (arith, c.loop-k-test.true, c.loop-k.invariant.walking.few)
 
-loop-again : tie.Need-loop-preserved invariant-loop decreases-loop
+loop-again : tie.Need-loop-k-preserved invariant-loop decreases-loop
 loop-again c =
-    let t = c.before.before in
-    let i = t.before.before in
-    let l = i.before.loop in
-    fills l.invariant i.loop-test.true t.read-checked.result (t.read-checked.ensures ∙ rw sub-zero)
+    let l = c.loop-k in
+    fills l.invariant c.loop-k-test.true c.read_checked-step.result (c.read_checked-step.ensures ∙ rw sub-zero)
 
 -- a reading with another record
 abbrev replaced : Reading → Record → Reading
 replaced r x = record { status = r.status; offset = r.offset; coded_width = r.coded_width; coded_height = r.coded_height; «record» = x }
 
-returns-3 : tie.Need-returns-3 invariant-loop decreases-loop
+returns-3 : tie.Need-returns invariant-loop decreases-loop
 returns-3 c =
-    let l = c.before.loop in
-    let n = c.before.before in
-    let e = entered n in
+    let l = c.loop-k in
+    let e = entered c.before.before in
     let w = whole e in
-    let a = n.before.before.before.before.before in
     let es = pad_entries (entries_at (found (surveyed e)).head.end.0 w.content.extensions) in
-    ap₂ replaced a.assemble2.ensures (full l.invariant c.loop-test.false w.content w.read ∙ ap (λ (r : Reading). with_entries r.«record» es) a.assemble2.ensures)
+    ap₂ replaced c.assemble-reading.ensures (full l.invariant c.loop-k-test.false w.content w.read ∙ ap (λ (r : Reading). with_entries r.«record» es) c.assemble-reading.ensures)
     ∙ assembled-file w ∙ asked-for e
 
-pub read-or-body-spec : {M : Type 1} → statement M
-read-or-body-spec =
+pub read_or_body_spec : {M : Type 1} → statement M
+read_or_body_spec =
     tie.close
     (tie.spec
     invariant-loop
