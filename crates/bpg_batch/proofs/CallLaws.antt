@@ -58,8 +58,8 @@ module _ (buffer lengths statuses offsets : List ℕ) where
 -- ---- b is the answer to whether the lengths add up
 
 module _ (size total : ℕ) (b : Bool) (e : b ≡ eqb size total) where
-  pub they-miss : not b ≡ true → size ≡ total → ⊥
-  they-miss n s = bool-apart (eq-eqb size total s) (sym e ∙ not-true b n)
+  pub they-miss : b ≡ false → size ≡ total → ⊥
+  they-miss n s = bool-apart (eq-eqb size total s) (sym e ∙ n)
 
-  pub they-add-up : not b ≡ false → size ≡ total
-  they-add-up n = eqb-true size total (sym e ∙ not-false b n)
+  pub they-add-up : b ≡ true → size ≡ total
+  they-add-up n = eqb-true size total (sym e ∙ n)

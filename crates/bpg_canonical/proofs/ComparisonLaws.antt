@@ -43,6 +43,7 @@ true-test b e = subst T (sym e) tt
 
 test-true : (b : Bool) → T b → b ≡ true
 test-true true t = refl
+test-true false t = elim t [ ]
 
 pub compares : (f g out1 out2 : List ℕ) → Compares f g out1 out2 (comparison_of f g out1 out2) (canonical_buffer f out1) (canonical_buffer g out2)
 compares f g out1 out2 a b h k =

@@ -1,3 +1,2 @@
 -- Laws of the cursor.
 pub mod CursorLaws
-pub mod Held

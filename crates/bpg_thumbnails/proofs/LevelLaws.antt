@@ -1,6 +1,6 @@
 -- The check of an entry and the check of a file, case by case.
 use mathlib.Core.Path.{◌≡◌, refl, sym, ap, ◌∙◌, subst}
-use mathlib.Core.Bool.{Bool, true, false, not}
+use mathlib.Core.Bool.{Bool, true, false}
 use mathlib.Core.List.{List, [], ◌∷◌, map}
 use mathlib.Core.Logic.{◌↔◌, ◌≢◌}
 use Prim.Native.Nat.{ℕ, zero, suc, ◌+◌, ◌-◌, ◌≤◌, ◌<◌}
@@ -8,7 +8,7 @@ use native.Mathlib.Omega.{arith}
 use lib.ListN.{length, take, drop, get_or, length-append, length-map, length-take, length-drop, drop_of_length-le}
 use lib.Seq.{get_or-take}
 use lib.Dec.{eqb}
-use borrow.Author.Tests.{eq-eqb, ne_eqb, not-true, not-false}
+use borrow.Author.Tests.{eq-eqb, ne_eqb}
 use Rattle.bpg_codec.specs.Select.{select}
 use Rattle.bpg_codec.specs.Outcome.{Outcome, ok, ◌>>=◌, guard}
 use Rattle.bpg_codec.proofs.Answers.{refused-error, accepted-value}
@@ -92,11 +92,11 @@ module _ (left : ℕ) (f : List ℕ) (start : ℕ) (e : Entry) where
           smaller-is : is_smaller (size_of (record_in part)) (size_of (record_in f)) ≡ b
           smaller-is = sym (c ∙ rw (p, read))
 
-          pub entry-large : x ≡ refused 29 offset → not b ≡ true → Answers
-          entry-large a h = a ∙ rw (entered, smaller-is, not-true b h, ← read, eq-eqb r.status 0 z)
+          pub entry-large : x ≡ refused 29 offset → b ≡ false → Answers
+          entry-large a h = a ∙ rw (entered, smaller-is, h, ← read, eq-eqb r.status 0 z)
 
-          pub entry-entered : x ≡ checked_of (check_entries (left - 1) part offset) → not b ≡ false → Answers
-          entry-entered a h = a ∙ rw (entered, smaller-is, not-false b h, ← read, eq-eqb r.status 0 z)
+          pub entry-entered : x ≡ checked_of (check_entries (left - 1) part offset) → b ≡ true → Answers
+          entry-entered a h = a ∙ rw (entered, smaller-is, h, ← read, eq-eqb r.status 0 z)
 
 -- ---- the entries of a file, one after the other
 

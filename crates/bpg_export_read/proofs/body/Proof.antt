@@ -6,8 +6,8 @@ use Rattle.bpg_export_read.proofs.body.Tie as tie
 
 returns : tie.Need-returns
 returns c =
-    let a = c.before.before.before.before.before.before.before.before.args in
-    one-given a.head.now a.file.now a.numbers.now c.before.before.read-list.ensures
+    let a = c.args in
+    one-given a.head.now a.file.now a.numbers.now c.read_list.ensures
 
-pub body-spec : {M : Type 1} → statement M
-body-spec = tie.close (tie.spec (λ c κs. search rules) (λ c. search rules) returns)
+pub body_spec : {M : Type 1} → statement M
+body_spec = tie.close (tie.spec (λ c κs. search rules) (λ c. search rules) returns)

@@ -6,8 +6,8 @@ use Rattle.bpg_export_read.proofs.read.Tie as tie
 
 returns : tie.Need-returns
 returns c =
-    let a = c.before.before.before.before.before.before.before.before.args in
-    none-given _ a.file.now a.numbers.now c.before.before.read-list.ensures
+    let a = c.args in
+    none-given _ a.file.now a.numbers.now c.read_list.ensures
 
 pub read_spec : {M : Type 1} → statement M
 read_spec = tie.close (tie.spec (λ c. search rules) (λ c κs. search rules) (λ c. search rules) returns)

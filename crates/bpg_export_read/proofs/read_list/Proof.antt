@@ -7,9 +7,8 @@ use Rattle.bpg_export_read.proofs.read_list.Tie as tie
 
 returns : tie.Need-returns
 returns c =
-    let w = c.before.before in
-    let a = w.before.before.before.before.before.args in
-    listed-parts a.numbers.now (either_reading a.is-given a.head.now a.file.now) _ _ w.read.ensures.0 w.read.ensures.1
+    let a = c.args in
+    listed-parts a.numbers.now (either_reading a.is_given a.head.now a.file.now) _ _ c.read-listed.ensures.0 c.read-listed.ensures.1
 
-pub read-list-spec : {M : Type 1} → statement M
-read-list-spec = tie.close (tie.spec (λ c κs. search rules) (λ c. search rules) returns)
+pub read_list_spec : {M : Type 1} → statement M
+read_list_spec = tie.close (tie.spec (λ c κs. search rules) (λ c. search rules) returns)

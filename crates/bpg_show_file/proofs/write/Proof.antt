@@ -4,18 +4,13 @@ use Rattle.bpg_show_file.proofs.SummaryLaws.{summary-long, summary-read}
 use Rattle.bpg_show_file.proofs.write.Statement.{statement}
 use Rattle.bpg_show_file.proofs.write.Tie as tie
 
-returns : tie.Need-returns
+returns : tie.Need-returns-then-file-gt-SUMMARY_LIMIT
 returns c =
-    let w = c.before.before in
-    let branch = w.before.before in
-    rw (summary-long branch.before.before.before.args.file.now branch.if1.true) w.write-refused.ensures
+    rw (summary-long c.args.file.now c.if-file-gt-SUMMARY_LIMIT.true) c.write_refused.ensures
 
-returns-2 : tie.Need-returns-2
+returns-2 : tie.Need-returns
 returns-2 c =
-    let w = c.before.before in
-    let r = w.before.before in
-    let branch = r.before in
-    rw (summary-read branch.before.before.before.args.file.now branch.if1.false, ← r.read.ensures.0) w.write.ensures
+    rw (summary-read c.args.file.now c.if-file-gt-SUMMARY_LIMIT.false, ← c.read.ensures.0) c.write.ensures
 
 pub write_spec : {M : Type 1} → statement M
 write_spec =

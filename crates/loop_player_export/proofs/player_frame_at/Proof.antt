@@ -6,7 +6,7 @@ use Rattle.loop_player_export.proofs.player_frame_at.Statement.{statement}
 use Rattle.loop_player_export.proofs.player_frame_at.Tie as tie
 
 returns : tie.Need-returns
-returns c = let e = c.frame_at.ensures in (ap (λ (x : FrameAt). x.status) e, (ap (λ (x : FrameAt). x.frame) e, ap (λ (x : FrameAt). x.ended) e))
+returns c = let e = c.frame_at-answer.ensures in (ap (λ (x : FrameAt). x.status) e, (ap (λ (x : FrameAt). x.frame) e, ap (λ (x : FrameAt). x.ended) e))
 
-pub player-frame-at-spec : {M : Type 1} → statement M
-player-frame-at-spec = tie.close (tie.spec (λ c κs. search rules) returns)
+pub player_frame_at_spec : {M : Type 1} → statement M
+player_frame_at_spec = tie.close (tie.spec (λ c κs. search rules) returns)

@@ -6,7 +6,7 @@ use Rattle.loop_player_export.proofs.player_frame_at_time.Statement.{statement}
 use Rattle.loop_player_export.proofs.player_frame_at_time.Tie as tie
 
 returns : tie.Need-returns
-returns c = let e = c.frame-at-time.ensures in (ap (λ (x : Shown). x.status) e, (ap (λ (x : Shown). x.frame) e, (ap (λ (x : Shown). x.ended) e, ap (λ (x : Shown). x.offset) e)))
+returns c = let e = c.frame_at_time-shown.ensures in (ap (λ (x : Shown). x.status) e, (ap (λ (x : Shown). x.frame) e, (ap (λ (x : Shown). x.ended) e, ap (λ (x : Shown). x.offset) e)))
 
-pub player-frame-at-time-spec : {M : Type 1} → statement M
-player-frame-at-time-spec = tie.close (tie.spec (λ c κs. search rules) returns)
+pub player_frame_at_time_spec : {M : Type 1} → statement M
+player_frame_at_time_spec = tie.close (tie.spec (λ c κs. search rules) returns)

@@ -6,7 +6,7 @@ use Rattle.loop_player_export.proofs.player_ticks.Statement.{statement}
 use Rattle.loop_player_export.proofs.player_ticks.Tie as tie
 
 returns : tie.Need-returns
-returns c = let e = c.ticks.ensures in (ap (λ (x : TickCount). x.status) e, ap (λ (x : TickCount). x.ticks) e)
+returns c = let e = c.ticks-answer.ensures in (ap (λ (x : TickCount). x.status) e, ap (λ (x : TickCount). x.ticks) e)
 
-pub player-ticks-spec : {M : Type 1} → statement M
-player-ticks-spec = tie.close (tie.spec (λ c κs. search rules) returns)
+pub player_ticks_spec : {M : Type 1} → statement M
+player_ticks_spec = tie.close (tie.spec (λ c κs. search rules) returns)

@@ -8,14 +8,14 @@ use Rattle.bpg_batch.proofs.EachLaws.{ReadSoFar, read_none, all_read, file-insid
 use Rattle.bpg_batch.proofs.each.read_each.Statement.{statement}
 use Rattle.bpg_batch.proofs.each.read_each.Tie as tie
 
-abbrev invariant-loop : tie.invariant-loop
+abbrev invariant-loop : tie.invariant-loop-k
 invariant-loop buffer lengths statuses₀ offsets₀ start₀ k₀ statuses offsets start k = ReadSoFar buffer lengths statuses offsets start k
 
-abbrev decreases-loop : tie.decreases-loop
+abbrev decreases-loop : tie.decreases-loop-k
 decreases-loop buffer lengths statuses₀ offsets₀ start₀ k₀ statuses offsets start k = length lengths - k
 
-pub read-each-spec : {M : Type 1} → statement M
-read-each-spec =
+pub read_each_spec : {M : Type 1} → statement M
+read_each_spec =
     tie.close
     (tie.spec
     invariant-loop
@@ -23,21 +23,19 @@ read-each-spec =
     (λ c. search read_none)
     (λ c. search rules)
     (λ c. search rules)
-    (λ c. omega (arith, c.shared-slice-known3.given c.before.before.loop.k))
-    (λ c. omega (arith, file-inside c.before.before.loop.invariant c.before.loop-test.true))
+    (λ c. omega (arith, c.shared_slice_known-in-loop-k-1.given c.loop-k.k))
+    (λ c. omega (arith, file-inside c.loop-k.invariant c.loop-k-test.true))
     (λ c. search rules)
     (λ c. search rules)
-    (λ c. file-inside c.before.before.loop.invariant c.before.loop-test.true)
+    (λ c. file-inside c.loop-k.invariant c.loop-k-test.true)
     (λ c κs. search rules)
-    (λ c. omega (arith, c.before.before.before.before.loop.invariant.as-many-statuses))
-    (λ c.
-    let l = c.before.before.before.before in
-    omega (arith, c.before.before.before.shared-slice-known3.given l.before.loop.k, offset-fits l.before.loop.invariant l.loop-test.true _ c.before.judge.ensures))
+    (λ c. omega (arith, c.loop-k.invariant.as-many-statuses))
+    (λ c. omega (arith, c.shared_slice_known-in-loop-k-1.given c.loop-k.k, offset-fits c.loop-k.invariant c.loop-k-test.true _ c.judge-verdict.ensures))
     (λ c. search rules)
-    (λ c. omega (arith, c.before.before.before.before.before.loop.invariant.as-many-offsets))
+    (λ c. omega (arith, c.loop-k.invariant.as-many-offsets))
     (λ c. search rules)
     (λ c. search rules)
     (λ c. search read_next)
-    (λ c. c.before.loop.invariant.as-many-statuses ∙ sym c.before.before.before.before.before.before.requires.as-many-statuses)
-    (λ c. c.before.loop.invariant.as-many-offsets ∙ sym c.before.before.before.before.before.before.requires.as-many-offsets)
-    (λ c. all_read c.before.loop.invariant c.loop-test.false))
+    (λ c. c.loop-k.invariant.as-many-statuses ∙ sym c.requires.as-many-statuses)
+    (λ c. c.loop-k.invariant.as-many-offsets ∙ sym c.requires.as-many-offsets)
+    (λ c. all_read c.loop-k.invariant c.loop-k-test.false))

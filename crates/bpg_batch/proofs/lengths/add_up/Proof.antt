@@ -7,14 +7,14 @@ use Rattle.bpg_batch.proofs.SumLaws.{Left, none-taken, too_long, next-taken, all
 use Rattle.bpg_batch.proofs.lengths.add_up.Statement.{statement}
 use Rattle.bpg_batch.proofs.lengths.add_up.Tie as tie
 
-abbrev invariant-loop : tie.invariant-loop
+abbrev invariant-loop : tie.invariant-loop-k
 invariant-loop lengths size left₀ k₀ left k = Left lengths size left k
 
-abbrev decreases-loop : tie.decreases-loop
+abbrev decreases-loop : tie.decreases-loop-k
 decreases-loop lengths size left₀ k₀ left k = length lengths - k
 
-pub add-up-spec : {M : Type 1} → statement M
-add-up-spec =
+pub add_up_spec : {M : Type 1} → statement M
+add_up_spec =
     tie.close
     (tie.spec
     invariant-loop
@@ -22,7 +22,7 @@ add-up-spec =
     (λ c. search none-taken)
     (λ c. search rules)
     (λ c. search rules)
-    (λ c. omega (arith, c.shared-slice-known.given c.before.before.loop.k))
+    (λ c. omega (arith, c.shared_slice_known-1.given c.loop-k.k))
     (λ c. search too_long)
     (λ c. search rules)
     (λ c. search rules)

@@ -7,14 +7,13 @@ use borrow.Author.Rules.{rules}
 use Rattle.bpg_canonical.proofs.comparison.same_forms.Statement.{statement}
 use Rattle.bpg_canonical.proofs.comparison.same_forms.Tie as tie
 
-returns-3 : tie.Need-returns-3
+returns-3 : tie.Need-returns
 returns-3 c =
-    let s = c.before.before.before.before.before.before.before.before.before in
-    c.equal.ensures ∙ both-written s.args.one s.args.other s.args.first.now s.args.second.now (s.args.one.count - 0) (s.args.other.count - 0)
+    c.equal.ensures ∙ both-written c.args.one c.args.other c.args.first.now c.args.second.now (c.args.one.count - 0) (c.args.other.count - 0)
     (search rules) (search rules) (omega arith) (omega arith)
 
-pub same-forms-spec : {M : Type 1} → statement M
-same-forms-spec =
+pub same_forms_spec : {M : Type 1} → statement M
+same_forms_spec =
     tie.close
     (tie.spec
     (λ c. search first-refused)

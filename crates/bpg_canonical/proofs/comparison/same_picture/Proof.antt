@@ -4,18 +4,18 @@ use borrow.Author.Rules.{rules}
 use Rattle.bpg_canonical.proofs.comparison.same_picture.Statement.{statement}
 use Rattle.bpg_canonical.proofs.comparison.same_picture.Tie as tie
 
-same-forms-requires : tie.Need-same-forms-requires
+same-forms-requires : tie.Need-same_forms-same-requires
 same-forms-requires c κs = (search fits, search fits)
 
 returns : tie.Need-returns
 returns c =
-    let one = c.before.before.before.before.before.before.before.before.before.canonicalize in
-    let other = c.before.before.before.before.before.canonicalize2 in
-    let x = compared _ _ _ _ _ _ _ _ _ one.ensures.0 one.ensures.1 other.ensures.0 other.ensures.1 c.same-forms.ensures in
+    let one = c.canonicalize-one in
+    let other = c.canonicalize-other in
+    let x = compared _ _ _ _ _ _ _ _ _ one.ensures.0 one.ensures.1 other.ensures.0 other.ensures.1 c.same_forms-same.ensures in
     (x.0, (x.1, (x.2, x.3)))
 
-pub same-picture-spec : {M : Type 1} → statement M
-same-picture-spec =
+pub same_picture_spec : {M : Type 1} → statement M
+same_picture_spec =
     tie.close
     (tie.spec
     (λ c κs. search rules)

@@ -6,7 +6,7 @@ use Rattle.bpg_canonical.proofs.file.canonicalize.Statement.{statement}
 use Rattle.bpg_canonical.proofs.file.canonicalize.Tie as tie
 
 returns : tie.Need-returns
-returns c = let e = c.before.before.canonicalize-or-size.ensures in (e.0 ∙ select-false _ _ refl, e.1 ∙ select-false _ _ refl)
+returns c = let e = c.canonicalize_or_size.ensures in (e.0 ∙ select-false _ _ refl, e.1 ∙ select-false _ _ refl)
 
-pub canonicalize-spec : {M : Type 1} → statement M
-canonicalize-spec = tie.close (tie.spec (λ c κs. search rules) (λ c. search rules) returns)
+pub canonicalize_spec : {M : Type 1} → statement M
+canonicalize_spec = tie.close (tie.spec (λ c κs. search rules) (λ c. search rules) returns)

@@ -10,30 +10,23 @@ use Rattle.bpg_canonical.proofs.FileLaws.{refused, canonicalized}
 use Rattle.bpg_canonical.proofs.file.canonicalize_or_size.Statement.{statement}
 use Rattle.bpg_canonical.proofs.file.canonicalize_or_size.Tie as tie
 
-returns : tie.Need-returns
+returns : tie.Need-returns-then-reading-ne0
 returns c =
-    let r = c.before.before.before in
-    let s = r.before.before.before in
-    let a = refused s.args.file.now r.read.result r.read.ensures.0 s.args.out.now s.args.sizing c.before.if1.true in
-    (c.written-refused.ensures ∙ a.0, a.1)
+    let a = refused c.args.file.now c.read-reading.result c.read-reading.ensures.0 c.args.out.now c.args.sizing c.if-reading-ne0.true in
+    (c.written_refused.ensures ∙ a.0, a.1)
 
-returns-2 : tie.Need-returns-2
+returns-2 : tie.Need-returns
 returns-2 c =
-    let w = c.before.before in
-    let k = w.before.before in
-    let e = k.before.before in
-    let r = e.before.before in
-    let s = r.before.before.before in
-    let file = s.args.file.now in
-    let out = s.args.out.now in
-    let t = s.args.sizing in
-    let e1 = ap (λ (x : Record). select t (write_size x file) (write_file x file out)) k.canonical.ensures in
-    let e2 = ap (λ (x : Record). select t out (write_buffer x file out)) k.canonical.ensures in
-    let a = canonicalized file r.read.result r.read.ensures.0 out t (all-bytes file (λ i. omega (arith, r.before.before.shared-slice-known.given i))) e.if1.false in
-    (w.write-or-size.ensures.0 ∙ e1 ∙ a.0, w.write-or-size.ensures.1 ∙ e2 ∙ a.1)
+    let file = c.args.file.now in
+    let out = c.args.out.now in
+    let t = c.args.sizing in
+    let e1 = ap (λ (x : Record). select t (write_size x file) (write_file x file out)) c.canonical-canonical.ensures in
+    let e2 = ap (λ (x : Record). select t out (write_buffer x file out)) c.canonical-canonical.ensures in
+    let a = canonicalized file c.read-reading.result c.read-reading.ensures.0 out t (all-bytes file (λ i. omega (arith, c.shared_slice_known-1.given i))) c.if-reading-ne0.false in
+    (c.write_or_size.ensures.0 ∙ e1 ∙ a.0, c.write_or_size.ensures.1 ∙ e2 ∙ a.1)
 
-pub canonicalize-or-size-spec : {M : Type 1} → statement M
-canonicalize-or-size-spec =
+pub canonicalize_or_size_spec : {M : Type 1} → statement M
+canonicalize_or_size_spec =
     tie.close
     (tie.spec
     (λ c κs. search rules)

@@ -18,10 +18,10 @@ take-least l n m e =
 
 returns : tie.Need-returns
 returns c =
-    let p = c.before.before.before.args.file.ptr in
+    let p = c.args.file.ref_ptr in
     let n : 0 + p.1 ≡ p.1 = omega arith in
-    (take-least _ _ _ c.before.least.ensures, λ i. (p.0, n i))
+    (take-least _ _ _ c.least-end.ensures, λ i. (p.0, n i))
 
-pub region-to-spec : {M : Type 1} → statement M
-region-to-spec =
+pub region_to_spec : {M : Type 1} → statement M
+region_to_spec =
     tie.close (tie.spec (λ c κs. search rules) (λ c. search rules) (λ c. search rules) (λ c. search rules) returns)

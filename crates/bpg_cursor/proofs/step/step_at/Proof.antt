@@ -30,11 +30,11 @@ module _ (region : List ℕ) (p : ℕ) (t : EntryReading) (e : t ≡ entry_head_
       (λ s o w k. omega (arith, entry-refuses region p s o w)) λ x w.
       ap found (e ∙ ap (entry_head_answer p) w) ∙ ap (step_of p) (sym w)
 
-returns : tie.Need-returns
-returns c = let r = c.before.before in step-absent _ _ r.read-checked.result r.read-checked.ensures c.if1.true
+returns : tie.Need-returns-then-read-ne0
+returns c = step-absent _ _ c.read_checked-read.result c.read_checked-read.ensures c.if-read-ne0.true
 
-returns-2 : tie.Need-returns-2
-returns-2 c = let r = c.before.before.before.before in step-found _ _ r.read-checked.result r.read-checked.ensures c.before.before.if1.false
+returns-2 : tie.Need-returns
+returns-2 c = step-found _ _ c.read_checked-read.result c.read_checked-read.ensures c.if-read-ne0.false
 
-pub step-at-spec : {M : Type 1} → statement M
-step-at-spec = tie.close (tie.spec (λ c κs. search rules) returns returns-2)
+pub step_at_spec : {M : Type 1} → statement M
+step_at_spec = tie.close (tie.spec (λ c κs. search rules) returns returns-2)

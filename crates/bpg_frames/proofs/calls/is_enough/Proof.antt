@@ -4,5 +4,5 @@ use Rattle.bpg_codec.proofs.Select.{select-true, select-false}
 use Rattle.bpg_frames.proofs.calls.is_enough.Statement.{statement}
 use Rattle.bpg_frames.proofs.calls.is_enough.Tie as tie
 
-pub is-enough-spec : {M : Type 1} → statement M
-is-enough-spec = tie.close (tie.spec (λ c. sym (select-true _ _ c.if1.true)) (λ c. sym (select-false _ _ c.if1.false)))
+pub is_enough_spec : {M : Type 1} → statement M
+is_enough_spec = tie.close (tie.spec (λ c. sym (select-true _ _ c.if-animated.true)) (λ c. sym (select-false _ _ c.if-animated.false)))

@@ -8,40 +8,29 @@ use Rattle.bpg_frames.proofs.CallLaws.{survey-unread, survey-refused, survey-few
 use Rattle.bpg_frames.proofs.calls.survey_file.Statement.{statement}
 use Rattle.bpg_frames.proofs.calls.survey_file.Tie as tie
 
-bytes : (c : tie.After-shared-slice-known) → All Byte c.before.args.file.now
-bytes c = all-bytes c.before.args.file.now (λ i. omega (arith, c.shared-slice-known.given i))
+bytes : (c : tie.After-shared_slice_known-1) → All Byte c.args.file.now
+bytes c = all-bytes c.args.file.now (λ i. omega (arith, c.shared_slice_known-1.given i))
 
-returns : tie.Need-returns
-returns c = let r = c.before.before.before in survey-unread _ _ r.read.ensures.0 c.before.if1.true _ c.survey-refused.ensures
+returns : tie.Need-returns-then-reading-ne0
+returns c = survey-unread _ _ c.read-reading.ensures.0 c.if-reading-ne0.true _ c.survey_refused.ensures
 
-returns-2 : tie.Need-returns-2
+returns-2 : tie.Need-returns-then-frames-ne0
 returns-2 c =
-    let k = c.before.before.before in
-    let e = k.before.before.before.before in
-    let r = e.before.before in
-    survey-refused _ _ r.read.ensures.0 (bytes r.before) e.if1.false _ k.before.has-alpha.ensures _ k.count-frames.ensures c.before.if2.true _
-    c.survey-refused2.ensures
+    survey-refused _ _ c.read-reading.ensures.0 (bytes c.before.before.before.before.before.before.before.before.before.before) c.if-reading-ne0.false _ c.has_alpha-alpha.ensures _ c.count_frames-frames.ensures c.if-frames-ne0.true _
+    c.survey_refused-then-frames-ne0.ensures
 
-returns-3 : tie.Need-returns-3
+returns-3 : tie.Need-returns-then-not-is_enough
 returns-3 c =
-    let n = c.before.before in
-    let k = n.before.before.before in
-    let e = k.before.before.before.before in
-    let r = e.before.before in
-    survey-few _ _ r.read.ensures.0 (bytes r.before) e.if1.false _ k.before.has-alpha.ensures _ k.count-frames.ensures n.before.if2.false _
-    n.is-enough.ensures (not-true _ c.before.if3.true) _ c.survey-refused3.ensures
+    survey-few _ _ c.read-reading.ensures.0 (bytes c.before.before.before.before.before.before.before.before.before.before.before.before) c.if-reading-ne0.false _ c.has_alpha-alpha.ensures _ c.count_frames-frames.ensures c.if-frames-ne0.false _
+    c.is_enough.ensures (c.if-not-is_enough.true) _ c.survey_refused-then-not-is_enough.ensures
 
-returns-4 : tie.Need-returns-4
+returns-4 : tie.Need-returns
 returns-4 c =
-    let n = c.before in
-    let k = n.before.before.before in
-    let e = k.before.before.before.before in
-    let r = e.before.before in
-    survey-done _ _ r.read.ensures.0 (bytes r.before) e.if1.false _ k.before.has-alpha.ensures _ k.count-frames.ensures n.before.if2.false _
-    n.is-enough.ensures (not-false _ c.if3.false)
+    survey-done _ _ c.read-reading.ensures.0 (bytes c.before.before.before.before.before.before.before.before.before.before.before) c.if-reading-ne0.false _ c.has_alpha-alpha.ensures _ c.count_frames-frames.ensures c.if-frames-ne0.false _
+    c.is_enough.ensures (c.if-not-is_enough.false)
 
-pub survey-file-spec : {M : Type 1} → statement M
-survey-file-spec =
+pub survey_file_spec : {M : Type 1} → statement M
+survey_file_spec =
     tie.close
     (tie.spec
     (λ c κs. search rules)

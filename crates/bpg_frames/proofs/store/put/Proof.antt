@@ -9,17 +9,17 @@ use Rattle.bpg_codec.proofs.Select.{select-true, select-false}
 use Rattle.bpg_frames.proofs.store.put.Statement.{statement}
 use Rattle.bpg_frames.proofs.store.put.Tie as tie
 
-returns : tie.Need-returns
-returns c = let s = not-true _ c.if1.true in (sym (select-false _ _ s), sym (select-false _ _ s))
+returns : tie.Need-returns-then-not-starts
+returns c = let s = c.if-not-starts.true in (sym (select-false _ _ s), sym (select-false _ _ s))
 
 -- a frame starts, so there is room
-room : (c : tie.After-shown) → c.before.before.before.args.at < length c.before.before.before.args.durations.now
-room c = c.before.before.before.requires (not-false _ c.before.if1.false)
+room : (c : tie.After-shown) → c.args.at < length c.args.durations.now
+room c = c.requires (c.if-not-starts.false)
 
-returns-2 : tie.Need-returns-2
+returns-2 : tie.Need-returns
 returns-2 c =
-    let a = c.before.before.before.args in
-    let s = not-false _ c.before.if1.false in
+    let a = c.args in
+    let s = c.if-not-starts.false in
     (sym (select-true _ _ s), ap (set a.durations.now a.at) c.shown.ensures ∙ sym (select-true _ _ s))
 
 pub put_spec : {M : Type 1} → statement M
@@ -31,5 +31,5 @@ put_spec =
     (λ c. omega (arith, room c))
     room
     (λ c. omega (arith, room c))
-    (λ c. length-set c.before.before.before.args.durations.now _ _)
+    (λ c. length-set c.args.durations.now _ _)
     returns-2)

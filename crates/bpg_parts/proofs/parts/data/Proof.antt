@@ -11,28 +11,26 @@ use borrow.Author.Rules.{rules}
 use Rattle.bpg_parts.proofs.parts.data.Statement.{statement}
 use Rattle.bpg_parts.proofs.parts.data.Tie as tie
 
-cast-result : tie.Need-overflow-cast-result
-cast-result c = record { fits = omega (arith, data-fits c.before.before.before.read.result.«record» c.struct-known2.given) }
+cast-result : tie.Need-overflow_cast-result
+cast-result c = record { fits = omega (arith, data-fits c.read-reading.result.«record» c.struct_known-2-1.given) }
 
-add-result : tie.Need-overflow-add-result
-add-result c = record { fits = omega (arith, data-fits c.before.before.before.read.result.«record» c.struct-known2.given) }
+add-result : tie.Need-overflow_add-result
+add-result c = record { fits = omega (arith, data-fits c.read-reading.result.«record» c.struct_known-2-1.given) }
 
-part-result-end : tie.Need-slice-bounds-result-end
+part-result-end : tie.Need-slice_bounds-result-end
 part-result-end c =
-    let r = c.before.before.before in
-    let file = r.before.before.args.file.now in
-    let inside = data-inside file (all-bytes file (λ i. omega (arith, r.before.shared-slice-known.given i))) in
-    omega (arith, inside, ap (λ (x : Reading). range_end x.«record».«data») r.read.ensures.0)
+    let file = c.args.file.now in
+    let inside = data-inside file (all-bytes file (λ i. omega (arith, c.shared_slice_known-1.given i))) in
+    omega (arith, inside, ap (λ (x : Reading). range_end x.«record».«data») c.read-reading.ensures.0)
 
 returns : tie.Need-returns
 returns c =
-    let r = c.before.before.before.before in
-    let p = r.read.result.«record».«data» in
+    let p = c.read-reading.result.«record».«data» in
     let n : p.start + p.length - p.start ≡ p.length = omega arith in
-    (data-bytes _ r.read.result r.read.ensures.0 n, (refl, omega (arith, ap (λ (x : Reading). x.«record».«data».start) r.read.ensures.0)))
+    (data-bytes _ c.read-reading.result c.read-reading.ensures.0 n, (refl, omega (arith, ap (λ (x : Reading). x.«record».«data».start) c.read-reading.ensures.0)))
 
-pub data-spec : {M : Type 1} → statement M
-data-spec =
+pub data_spec : {M : Type 1} → statement M
+data_spec =
     tie.close
     (tie.spec
     (λ c κs. search rules)

@@ -10,22 +10,20 @@ use borrow.Author.Rules.{rules}
 use Rattle.bpg_parts.proofs.parts.payload.Statement.{statement}
 use Rattle.bpg_parts.proofs.parts.payload.Tie as tie
 
-part-result-end : tie.Need-slice-bounds-result-end
+part-result-end : tie.Need-slice_bounds-result-end
 part-result-end c =
-    let e = c.before.before in
-    let file = e.before.before.args.file.now in
-    let inside = payload-inside file (all-bytes file (λ i. omega (arith, e.before.shared-slice-known.given i))) e.before.before.args.k in
-    omega (arith, inside, ap (λ (x : Entry). range_end x.payload) e.entry.ensures)
+    let file = c.args.file.now in
+    let inside = payload-inside file (all-bytes file (λ i. omega (arith, c.shared_slice_known-1.given i))) c.args.k in
+    omega (arith, inside, ap (λ (x : Entry). range_end x.payload) c.entry-entry.ensures)
 
 returns : tie.Need-returns
 returns c =
-    let e = c.before.before.before in
-    let p = e.entry.result.payload in
+    let p = c.entry-entry.result.payload in
     let n : p.start + p.length - p.start ≡ p.length = omega arith in
-    (payload-bytes _ _ e.entry.result e.entry.ensures n, (refl, omega (arith, ap (λ (x : Entry). x.payload.start) e.entry.ensures)))
+    (payload-bytes _ _ c.entry-entry.result c.entry-entry.ensures n, (refl, omega (arith, ap (λ (x : Entry). x.payload.start) c.entry-entry.ensures)))
 
-pub payload-spec : {M : Type 1} → statement M
-payload-spec =
+pub payload_spec : {M : Type 1} → statement M
+payload_spec =
     tie.close
     (tie.spec
     (λ c κs. search rules)

@@ -28,15 +28,15 @@ use Rattle.bpg_read_list.proofs.Listing.{Listing, none-listed, lists, same_lengt
 use Rattle.bpg_read_list.proofs.file.read.Statement.{statement}
 use Rattle.bpg_read_list.proofs.file.read.Tie as tie
 
-abbrev invariant-loop : tie.invariant-loop
+abbrev invariant-loop : tie.invariant-loop-k
 invariant-loop file given is_given numbers₀ used end next₀ k₀ numbers next k = Listing file used end next₀.0 numbers₀ numbers next.0 k
 
-abbrev decreases-loop : tie.decreases-loop
+abbrev decreases-loop : tie.decreases-loop-k
 decreases-loop file given is_given numbers₀ used end next₀ k₀ numbers next k = used - k
 
 -- ---- the file was surveyed
 
-module _ (c : tie.After-survey invariant-loop decreases-loop) where
+module _ (c : tie.After-survey-found invariant-loop decreases-loop) where
   abbrev start : tie.Start invariant-loop decreases-loop
   start = c.before.before.before.before
 
@@ -47,112 +47,105 @@ module _ (c : tie.After-survey invariant-loop decreases-loop) where
   numbers = start.args.numbers.now
 
   abbrev is_asked : CodedHead → Bool
-  is_asked = asked start.args.is-given start.args.given.now
+  is_asked = asked start.args.is_given start.args.given.now
 
   abbrev found : FileSurvey
-  found = c.survey.result
+  found = c.survey-found.result
 
   -- what is asked for
   abbrev reading : Reading
-  reading = either_reading start.args.is-given start.args.given.now file
+  reading = either_reading start.args.is_given start.args.given.now file
 
   bytes : All Byte file
-  bytes = all-bytes file (λ i. omega (arith, c.before.before.before.shared-slice-known.given i))
+  bytes = all-bytes file (λ i. omega (arith, c.shared_slice_known-1.given i))
 
-abbrev surveyed : tie.Else1 invariant-loop decreases-loop → tie.After-survey invariant-loop decreases-loop
+abbrev surveyed : tie.Else-rest-ne0 invariant-loop decreases-loop → tie.After-survey-found invariant-loop decreases-loop
 surveyed c = c.before.before.before.before
 
-module _ (c : tie.Else1 invariant-loop decreases-loop) where
-  abbrev s : tie.After-survey invariant-loop decreases-loop
+module _ (c : tie.Else-rest-ne0 invariant-loop decreases-loop) where
+  abbrev s : tie.After-survey-found invariant-loop decreases-loop
   s = surveyed c
 
   whole : FileRead (file s) (found s).head (found s).rest
-  whole = (survey-read (is_asked s) (file s) (found s) s.survey.ensures (bytes s) c.if1.false).0
+  whole = (survey-read (is_asked s) (file s) (found s) s.survey-found.ensures (bytes s) c.if-rest-ne0.false).0
 
   asked-for : read_file (file s) ≡ reading s
-  asked-for = answered _ _ (file s) (survey-read (is_asked s) (file s) (found s) s.survey.ensures (bytes s) c.if1.false).1
+  asked-for = answered _ _ (file s) (survey-read (is_asked s) (file s) (found s) s.survey-found.ensures (bytes s) c.if-rest-ne0.false).1
 
   few : (found s).rest.block.entry_count ≤ 64
   few = omega (arith, counted whole, whole.rules.entry-limit)
 
 -- where the loop begins
-abbrev fitted : tie.After-next invariant-loop decreases-loop → tie.Else2 invariant-loop decreases-loop
+abbrev fitted : tie.After-next-1 invariant-loop decreases-loop → tie.Else-numbers-used invariant-loop decreases-loop
 fitted c = c.before.before.before.before.before.before.before
 
-abbrev entered : tie.After-next invariant-loop decreases-loop → tie.Else1 invariant-loop decreases-loop
+abbrev entered : tie.After-next-1 invariant-loop decreases-loop → tie.Else-rest-ne0 invariant-loop decreases-loop
 entered c = (fitted c).before.before
 
 -- ---- the answers
 
-returns : tie.Need-returns invariant-loop decreases-loop
+returns : tie.Need-returns-then-rest-ne0 invariant-loop decreases-loop
 returns c =
     let s = c.before.before.before.before.before in
     let t = (found s).rest in
-    let e = survey-refused (is_asked s) (file s) (found s) s.survey.ensures c.before.if1.true ∙ either _ (start s).args.is-given _ in
+    let e = survey-refused (is_asked s) (file s) (found s) c.survey-found.ensures c.if-rest-ne0.true ∙ either _ (start s).args.is_given _ in
     let a =
     subst (λ (r : Reading). Answers (numbers s) r (refused_written t.status t.offset.0) (numbers s)) e
-    (file-refused (numbers s) (refused_reading t.status t.offset.0) c.before.if1.true)
+    (file-refused (numbers s) (refused_reading t.status t.offset.0) c.if-rest-ne0.true)
     in
-    (c.written-refused.ensures ∙ a.0, a.1)
+    (c.written_refused.ensures ∙ a.0, a.1)
 
-returns-2 : tie.Need-returns-2 invariant-loop decreases-loop
+returns-2 : tie.Need-returns-then-numbers-used invariant-loop decreases-loop
 returns-2 c =
     let e = c.before.before.before in
-    let a = subst (λ (r : Reading). Answers (numbers (s e)) r (refused_written 20 0) (numbers (s e))) (asked-for e) (too_short (numbers (s e)) (file (s e)) (found (s e)) (whole e) c.before.if2.true) in
-    (c.written-refused2.ensures ∙ a.0, a.1)
+    let a = subst (λ (r : Reading). Answers (numbers (s e)) r (refused_written 20 0) (numbers (s e))) (asked-for e) (too_short (numbers (s e)) (file (s e)) (found (s e)) (whole e) c.if-numbers-used.true) in
+    (c.written_refused-then-numbers-used.ensures ∙ a.0, a.1)
 
-put-fixed-requires : tie.Need-put-fixed-requires invariant-loop decreases-loop
-put-fixed-requires c κs = let w = whole c.before.before.before in (omega (arith, c.before.if2.false), (data-inside w, min-cb-small w))
+put-fixed-requires : tie.Need-put_fixed-requires invariant-loop decreases-loop
+put-fixed-requires c κs = let w = whole c.before.before.before in (omega (arith, c.if-numbers-used.false), (data-inside w, min-cb-small w))
 
-add-end : tie.Need-overflow-add-end invariant-loop decreases-loop
+add-end : tie.Need-overflow_add-end invariant-loop decreases-loop
 add-end c = let w = whole c.before.before.before.before.before.before.before.before in omega (arith, end-inside w, short w)
 
 -- ---- the loop
 
-abbrev fixed : tie.After-next invariant-loop decreases-loop → tie.After-put-fixed invariant-loop decreases-loop
+abbrev fixed : tie.After-next-1 invariant-loop decreases-loop → tie.After-put_fixed invariant-loop decreases-loop
 fixed c = c.before.before.before.before.before
 
 -- the list is as long as before
-kept : (c : tie.After-next invariant-loop decreases-loop) → let e = entered c in
+kept : (c : tie.After-next-1 invariant-loop decreases-loop) → let e = entered c in
     length (written (numbers (s e)) 0 (survey_numbers (length (file (s e))) (found (s e)))) ≡ length (numbers (s e))
 kept c =
     let e = entered c in
-    written-length (numbers (s e)) 0 (survey_numbers (length (file (s e))) (found (s e))) (omega (arith, (fitted c).if2.false, (fixed c).put-fixed.ensures.1))
+    written-length (numbers (s e)) 0 (survey_numbers (length (file (s e))) (found (s e))) (omega (arith, (fitted c).if-numbers-used.false, (fixed c).put_fixed.ensures.1))
 
-loop-holds : tie.Need-loop-init invariant-loop decreases-loop
-loop-holds c = none-listed _ (omega (arith, (fitted c).if2.false, ap length (fixed c).put-fixed.ensures.0 ∙ kept c)) (begins (whole (entered c)))
+loop-holds : tie.Need-loop-k-init invariant-loop decreases-loop
+loop-holds c = none-listed _ (omega (arith, (fitted c).if-numbers-used.false, ap length (fixed c).put_fixed.ensures.0 ∙ kept c)) (begins (whole (entered c)))
 
-part_end : tie.Need-slice-bounds-read-checked-end invariant-loop decreases-loop
+part_end : tie.Need-slice_bounds-read_checked-end invariant-loop decreases-loop
 part_end c = end-inside (whole (entered c.before.before))
 
-cast-start : tie.Need-overflow-cast-start invariant-loop decreases-loop
+cast-start : tie.Need-overflow_cast-start invariant-loop decreases-loop
 cast-start t =
-    let i = t.before.before in
-    record { fits = omega (arith, length-small i.before.loop.invariant.walking i.loop-test.true t.read-checked.result (t.read-checked.ensures ∙ rw sub-zero)) }
+    record { fits = omega (arith, length-small t.loop-k.invariant.walking t.loop-k-test.true t.read_checked-step.result (t.read_checked-step.ensures ∙ rw sub-zero)) }
 
-sub-start : tie.Need-overflow-sub-start invariant-loop decreases-loop
+sub-start : tie.Need-overflow_sub-start invariant-loop decreases-loop
 sub-start c =
-    let t = c.before in
-    let i = t.before.before in
-    ends-inside i.before.loop.invariant.walking i.loop-test.true t.read-checked.result (t.read-checked.ensures ∙ rw sub-zero)
+    ends-inside c.loop-k.invariant.walking c.loop-k-test.true c.read_checked-step.result (c.read_checked-step.ensures ∙ rw sub-zero)
 
-loop-again : tie.Need-loop-preserved invariant-loop decreases-loop
+loop-again : tie.Need-loop-k-preserved invariant-loop decreases-loop
 loop-again c =
-    let p = c.before.before.before in
-    let t = p.before.before.before in
-    let i = t.before.before in
-    lists i.before.loop.invariant i.loop-test.true t.read-checked.result (t.read-checked.ensures ∙ rw sub-zero) _ p.put-entry.ensures
+    lists c.loop-k.invariant c.loop-k-test.true c.read_checked-step.result (c.read_checked-step.ensures ∙ rw sub-zero) _ c.put_entry.ensures
 
-returns-3 : tie.Need-returns-3 invariant-loop decreases-loop
+returns-3 : tie.Need-returns invariant-loop decreases-loop
 returns-3 c =
-    let l = c.before.loop in
-    let n = c.before.before in
-    let e = entered n in
+    let l = c.loop-k in
+    let e = entered c.before.before in
     let w = whole e in
-    let f = fixed n in
+    let f = fixed c.before.before in
     let a =
-    listed-file (numbers (s e)) (file (s e)) (found (s e)) w _ l.numbers (fitted n).if2.false f.put-fixed.ensures.1 f.put-fixed.ensures.0
-    (all_listed l.invariant c.loop-test.false w.content w.read)
+    listed-file (numbers (s e)) (file (s e)) (found (s e)) w _ l.numbers (fitted c.before.before).if-numbers-used.false f.put_fixed.ensures.1 f.put_fixed.ensures.0
+    (all_listed l.invariant c.loop-k-test.false w.content w.read)
     in
     let n = list_length (found (s e)).rest.block.entry_count in
     subst (λ (r : Reading). Answers (numbers (s e)) r (record { status = 0; offset = 0; count = n }) l.numbers) (asked-for e) a
@@ -181,11 +174,11 @@ read_spec =
     (λ c κs. search rules)
     cast-start
     sub-start
-    (λ c κs. let i = c.before.before.before.before in omega (arith, i.loop-test.true, i.before.loop.invariant.walking.few))
+    (λ c κs. omega (arith, c.loop-k-test.true, c.loop-k.invariant.walking.few))
     (λ c. omega arith)
     (λ c. omega arith)
     loop-again
     (λ c. omega (arith, few (entered c.before.before)))
     (λ c. omega (arith, few (entered c.before.before)))
-    (λ c. same_length c.before.loop.invariant ∙ ap length (fixed c.before.before).put-fixed.ensures.0 ∙ kept c.before.before)
+    (λ c. same_length c.loop-k.invariant ∙ ap length (fixed c.before.before).put_fixed.ensures.0 ∙ kept c.before.before)
     returns-3)

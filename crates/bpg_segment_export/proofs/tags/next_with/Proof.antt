@@ -14,10 +14,10 @@ use borrow.Author.Rules.{rules}
 use Rattle.bpg_segment_export.proofs.tags.next_with.Statement.{statement}
 use Rattle.bpg_segment_export.proofs.tags.next_with.Tie as tie
 
-abbrev invariant-loop : tie.invariant-loop
+abbrev invariant-loop : tie.invariant-loop-k
 invariant-loop tag from entries count k₀ k = (k ≤ count) × Searched tag (take count entries) from k
 
-abbrev decreases-loop : tie.decreases-loop
+abbrev decreases-loop : tie.decreases-loop-k
 decreases-loop tag from entries count k₀ k = count - k
 
 -- the entries in use, as many as the record says
@@ -29,38 +29,34 @@ module _ (s : tie.Start invariant-loop decreases-loop) where
   whole = search entries-count
 
   many : length used ≡ s.args.«record».entry_count
-  many = used-length s.args.«record» whole s.pre.0
+  many = used-length s.args.«record» whole s.requires.0
 
-loop-holds : tie.Need-loop-init invariant-loop decreases-loop
-loop-holds c = (c.before.before.requires.1, refl)
+loop-holds : tie.Need-loop-k-init invariant-loop decreases-loop
+loop-holds c = (c.requires.1, refl)
 
-returns : tie.Need-returns invariant-loop decreases-loop
+returns : tie.Need-returns-then-entry-tag invariant-loop decreases-loop
 returns c =
-    let l = c.before.before.before in
-    let a = l.before in
-    let s = a.before.before.before in
-    search-stops s.args.tag (used s) s.args.from a.loop.k a.loop.invariant.1 (omega (arith, l.loop-test.true, many s)) _
-    (used-entry s.args.«record» a.loop.k l.loop-test.true) c.if1.true
+    let s = c.before.before.before.before.before.before.before in
+    search-stops c.args.tag (used s) c.args.from c.loop-k.k c.loop-k.invariant.1 (omega (arith, c.loop-k-test.true, many s)) _
+    (used-entry c.args.«record» c.loop-k.k c.loop-k-test.true) c.if-entry-tag.true
 
-loop-again : tie.Need-loop-preserved invariant-loop decreases-loop
+loop-again : tie.Need-loop-k-preserved invariant-loop decreases-loop
 loop-again c =
-    let l = c.before.before.before in
-    let a = l.before in
-    let s = a.before.before.before in (
-      omega (arith, l.loop-test.true),
-      search-goes-on s.args.tag (used s) s.args.from a.loop.k a.loop.invariant.1 (omega (arith, l.loop-test.true, many s)) _
-          (used-entry s.args.«record» a.loop.k l.loop-test.true) c.if1.false,
+    let s = c.before.before.before.before.before.before.before in
+    (
+      omega (arith, c.loop-k-test.true),
+      search-goes-on c.args.tag (used s) c.args.from c.loop-k.k c.loop-k.invariant.1 (omega (arith, c.loop-k-test.true, many s)) _
+          (used-entry c.args.«record» c.loop-k.k c.loop-k-test.true) c.if-entry-tag.false,
     )
 
-returns-2 : tie.Need-returns-2 invariant-loop decreases-loop
+returns-2 : tie.Need-returns invariant-loop decreases-loop
 returns-2 c =
-    let a = c.before in
-    let s = a.before.before.before in
-    subst (NextWith (used s) s.args.tag s.args.from) (many s)
-    (search-ends s.args.tag (used s) s.args.from a.loop.k a.loop.invariant.1 (omega (arith, c.loop-test.false, many s)))
+    let s = c.before.before.before.before in
+    subst (NextWith (used s) c.args.tag c.args.from) (many s)
+    (search-ends c.args.tag (used s) c.args.from c.loop-k.k c.loop-k.invariant.1 (omega (arith, c.loop-k-test.false, many s)))
 
-pub next-with-spec : {M : Type 1} → statement M
-next-with-spec =
+pub next_with_spec : {M : Type 1} → statement M
+next_with_spec =
     tie.close
     (tie.spec
     invariant-loop

@@ -21,7 +21,7 @@ abbrev tagged : Bool → Range → Tagged
 tagged t p = record { once = t; payload = p }
 
 -- the first entry with the tag was looked for
-module _ (n : tie.After-next-with) where
+module _ (n : tie.After-next_with-first) where
   abbrev start : tie.Start
   start = n.before.before.before
 
@@ -29,43 +29,41 @@ module _ (n : tie.After-next-with) where
   used = used_entries start.args.«record»
 
   whole : length start.args.«record».entries ≡ max_entries
-  whole = let s = start in search entries-count
+  whole = search entries-count
 
   many : length used ≡ start.args.«record».entry_count
-  many = used-length start.args.«record» whole start.pre
+  many = used-length start.args.«record» whole start.requires
 
 -- and there is one
-found : (e : tie.Else1) → e.before.next-with.result < (start e.before).args.«record».entry_count
-found e = omega (arith, e.before.next-with.ensures.inside, many e.before, e.if1.false)
+found : (e : tie.Else-first-count) → e.next_with-first.result < (start e.before).args.«record».entry_count
+found e = omega (arith, e.next_with-first.ensures.inside, many e.before, e.if-first-count.false)
 
-returns : tie.Need-returns
+returns : tie.Need-returns-then-first-count
 returns c =
-    let n = c.before in
-    tagged-none (start n).args.tag (used n) n.next-with.result n.next-with.ensures (c.if1.true ∙ sym (many n))
+    tagged-none (start c.before).args.tag (used c.before) c.next_with-first.result c.next_with-first.ensures (c.if-first-count.true ∙ sym (many c.before))
 
-add-next-with : tie.Need-overflow-add-next-with
-add-next-with c = let h = found c in let m = (start c.before).pre in omega (arith, h, m)
+add-next-with : tie.Need-overflow_add-first
+add-next-with c = let h = found c in let m = (start c.before).requires in omega (arith, h, m)
 
-next-with-requires-2 : tie.Need-next-with-requires-2
-next-with-requires-2 c κs = ((start c.before).pre, omega (arith, found c))
+next-with-requires-2 : tie.Need-next_with-second-requires
+next-with-requires-2 c κs = ((start c.before).requires, omega (arith, found c))
 
-mul-entry : tie.Need-overflow-mul-entry
-mul-entry c = let e = c.before in let h = found e in let m = (start e.before).pre in omega (arith, h, m)
+mul-entry : tie.Need-offset_bounds-entries-first
+mul-entry c = let h = found c.before in let m = (start c.before.before).requires in omega (arith, h, m)
 
-array-copy-out-entry : tie.Need-array-copy-out-entry
-array-copy-out-entry c = let e = c.before in let h = found e in let m = (start e.before).pre in omega (arith, h, m)
+array-copy-out-entry : tie.Need-bounds-entries-first
+array-copy-out-entry c = let h = found c.before in let m = (start c.before.before).requires in omega (arith, h, m)
 
-returns-2 : tie.Need-returns-2
+returns-2 : tie.Need-returns
 returns-2 c =
-    let t = c.before.before in
-    let e = t.before in
-    let n = e.before in
-    let first = n.next-with.result in
-    let second = t.next-with2.result in
+    let e = c.before.before.before in
+    let n = c.before.before.before.before in
+    let first = c.next_with-first.result in
+    let second = c.next_with-second.result in
     ap₂ (λ (m : ℕ) (p : Range). tagged (eqb second m) p) (sym (many n)) (ap (λ (x : Entry). x.payload) (sym (used-entry (start n).args.«record» first (found e))))
-    ∙ tagged-some (start n).args.tag (used n) first n.next-with.ensures (omega (arith, found e, many n)) second t.next-with2.ensures
+    ∙ tagged-some (start n).args.tag (used n) first c.next_with-first.ensures (omega (arith, found e, many n)) second c.next_with-second.ensures
 
-pub with-tag-spec : {M : Type 1} → statement M
-with-tag-spec =
+pub with_tag_spec : {M : Type 1} → statement M
+with_tag_spec =
     tie.close
     (tie.spec (λ c. search rules) (λ c κs. search rules) returns add-next-with next-with-requires-2 mul-entry array-copy-out-entry returns-2)

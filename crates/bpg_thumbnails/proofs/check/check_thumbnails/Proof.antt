@@ -4,8 +4,8 @@ use Rattle.bpg_thumbnails.proofs.LevelLaws.{outer-refused, outer-entered, outer-
 use Rattle.bpg_thumbnails.proofs.check.check_thumbnails.Statement.{statement}
 use Rattle.bpg_thumbnails.proofs.check.check_thumbnails.Tie as tie
 
-pub check-thumbnails-spec : {M : Type 1} → statement M
-check-thumbnails-spec =
+pub check_thumbnails_spec : {M : Type 1} → statement M
+check_thumbnails_spec =
     tie.close
     (tie.spec
     (λ c κs. search rules)

@@ -6,7 +6,7 @@ use Rattle.loop_player_file.proofs.shown.played.Statement.{statement}
 use Rattle.loop_player_file.proofs.shown.played.Tie as tie
 
 returns : tie.Need-returns
-returns c = ap answered (c.frame_at.ensures ∙ rw c.before.ticks.ensures)
+returns c = ap answered (c.frame_at-answer.ensures ∙ rw c.ticks-time.ensures)
 
-pub played-spec : {M : Type 1} → statement M
-played-spec = tie.close (tie.spec (λ c κs. search rules) (λ c κs. search rules) returns)
+pub played_spec : {M : Type 1} → statement M
+played_spec = tie.close (tie.spec (λ c κs. search rules) (λ c κs. search rules) returns)

@@ -5,11 +5,11 @@ use borrow.Author.Tests.{eq-eqb, ne_eqb}
 use Rattle.loop_player_file.proofs.shown.refusal.Statement.{statement}
 use Rattle.loop_player_file.proofs.shown.refusal.Tie as tie
 
-returns : tie.Need-returns
-returns c = c.refused.ensures ∙ rw (eq-eqb _ 20 c.before.if1.true)
+returns : tie.Need-returns-then-status-eq20
+returns c = c.refused.ensures ∙ rw (eq-eqb _ 20 c.if-status-eq20.true)
 
-returns-2 : tie.Need-returns-2
-returns-2 c = c.refused2.ensures ∙ rw (ne_eqb _ 20 c.before.if1.false)
+returns-2 : tie.Need-returns
+returns-2 c = c.refused-2.ensures ∙ rw (ne_eqb _ 20 c.if-status-eq20.false)
 
-pub refusal-spec : {M : Type 1} → statement M
-refusal-spec = tie.close (tie.spec (λ c κs. search rules) returns (λ c κs. search rules) returns-2)
+pub refusal_spec : {M : Type 1} → statement M
+refusal_spec = tie.close (tie.spec (λ c κs. search rules) returns (λ c κs. search rules) returns-2)

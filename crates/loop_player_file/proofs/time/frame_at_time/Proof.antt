@@ -5,35 +5,32 @@ use Rattle.loop_player_file.proofs.Laws.{room-counted, part-counted, refused-ans
 use Rattle.loop_player_file.proofs.time.frame_at_time.Statement.{statement}
 use Rattle.loop_player_file.proofs.time.frame_at_time.Tie as tie
 
-abbrev at : tie.After-frames → tie.Start
+abbrev at : tie.After-frames-frames → tie.Start
 at c = c.before.before.before
 
-returns : tie.Need-returns
+returns : tie.Need-returns-then-frames-ne0
 returns c =
     let q = c.before.before.before.before in
-    let e = q.frames.ensures in
-    c.refusal.ensures ∙ refused-answer (at q).args.file.now _ _ e.0 e.1 (at q).args.ms c.before.if1.true
+    let e = c.frames-frames.ensures in
+    c.refusal.ensures ∙ refused-answer (at q).args.file.now _ _ e.0 e.1 (at q).args.ms c.if-frames-ne0.true
 
-array-share-prefix-durations : tie.Need-array-share-prefix-durations
+array-share-prefix-durations : tie.Need-slice_bounds-durations-end
 array-share-prefix-durations c =
-    let q = c.before.before.before.before.before in
-    room-counted (at q).args.file.now _ _ q.frames.ensures.0 q.frames.ensures.1
+    room-counted (at c.before.before.before.before.before).args.file.now _ _ c.frames-frames.ensures.0 c.frames-frames.ensures.1
 
-slice-aggregate-played : tie.Need-slice-aggregate-played
+slice-aggregate-played : tie.Need-slice_bounds-played-end
 slice-aggregate-played c =
-    let q = c.before.before.before.before.before.before in
-    part-counted (at q).args.file.now _ _ q.frames.ensures.0 q.frames.ensures.1
+    part-counted (at c.before.before.before.before.before.before).args.file.now _ _ c.frames-frames.ensures.0 c.frames-frames.ensures.1
 
-returns-2 : tie.Need-returns-2
+returns-2 : tie.Need-returns
 returns-2 c =
-    let r = c.before.before.before in
-    let q = r.before.before.before.before in
-    let e = q.frames.ensures in
+    let q = c.before.before.before.before.before.before.before in
+    let e = c.frames-frames.ensures in
     c.played.ensures
-    ∙ played-answer (at q).args.file.now _ _ e.0 e.1 (at q).args.ms r.before.if1.false r.read.result r.read.ensures.0
+    ∙ played-answer (at q).args.file.now _ _ e.0 e.1 (at q).args.ms c.if-frames-ne0.false c.read-reading.result c.read-reading.ensures.0
 
-pub frame-at-time-spec : {M : Type 1} → statement M
-frame-at-time-spec =
+pub frame_at_time_spec : {M : Type 1} → statement M
+frame_at_time_spec =
     tie.close
     (tie.spec
     (λ c. search rules)
