@@ -59,7 +59,7 @@ returns-2 c =
     let t = c.before.before.before.before.before in
     let r = reading t in
     let a = twice (file r) (out r) r.read-reading.result r.read-reading.ensures.0 (first t).if-reading-ne0.false _ _ _ (first t).with_tag-exif.ensures (second t).with_tag-xmp.ensures
-    c.with_tag-icc.ensures (not-true _ c.if-not-exif-xmp.true) in
+    c.with_tag-icc.ensures c.if-not-exif-xmp.true in
     (c.written_refused-then-not-exif-xmp.ensures ∙ a.0, a.1)
 
 part-write-run-end : tie.Need-slice_bounds-write_run-end
@@ -84,7 +84,7 @@ returns-3 c =
     let t = c.before.before.before.before.before.before.before.before.before.before.before.before.before.before.before.before.before in
     let r = reading t in
     once (file r) (out r) r.read-reading.result r.read-reading.ensures.0 (first t).if-reading-ne0.false _ _ _ (first t).with_tag-exif.ensures (second t).with_tag-xmp.ensures
-    c.with_tag-icc.ensures (not-false _ c.if-not-exif-xmp.false) c.write_run.ensures
+    c.with_tag-icc.ensures c.if-not-exif-xmp.false c.write_run.ensures
 
 pub export_segments_spec : {M : Type 1} → statement M
 export_segments_spec =
