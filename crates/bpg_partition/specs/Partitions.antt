@@ -46,8 +46,17 @@ counts head heads payloads headers l =
     record { status = 0; offset = 0; head = head; entry_heads = heads; payloads = payloads; headers = headers; «data» = l }
 
 abbrev pub partition_of : Outcome Content → Partition
-partition_of (ok c) = counts (head_count c) (entry_head_count c.extensions) (payload_count c.extensions) (header_count c) (data_count c)
-partition_of (error s o) = refused_partition s o
+partition_of (ok c) =
+    record {
+      status = 0;
+      offset = 0;
+      head = head_count c;
+      entry_heads = entry_head_count c.extensions;
+      payloads = payload_count c.extensions;
+      headers = header_count c;
+      «data» = data_count c;
+    }
+partition_of (error s o) = record { status = s; offset = o; head = 0; entry_heads = 0; payloads = 0; headers = 0; «data» = 0 }
 
 unfoldable pub partition_answer : List ℕ → Partition
 partition_answer f = partition_of (read_content f)

@@ -1,7 +1,7 @@
 -- `given::before_body` meets its contract.
 use mathlib.Core.Path.{sym, ◌∙◌}
 use borrow.Author.Rules.{rules}
-use borrow.Author.Tests.{lt-ltb, le-ltb, eq-eqb, ne_eqb, not-true, not-false}
+use borrow.Author.Tests.{lt-ltb, le-ltb, eq-eqb, ne_eqb}
 use Rattle.bpg_codec.proofs.Select.{select-true, select-false}
 use Rattle.bpg_read_survey.proofs.given.before_body.Statement.{statement}
 use Rattle.bpg_read_survey.proofs.given.before_body.Tie as tie

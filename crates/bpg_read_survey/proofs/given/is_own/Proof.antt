@@ -1,7 +1,6 @@
 -- `given::is_own` meets its contract.
 use mathlib.Core.Path.{ap, ◌∙◌}
 use borrow.Author.Rules.{rules}
-use borrow.Author.Tests.{not-true, not-false}
 use Rattle.bpg_head_rules.specs.Calls.{is_head}
 use Rattle.bpg_read_survey.proofs.given.is_own.Statement.{statement}
 use Rattle.bpg_read_survey.proofs.given.is_own.Tie as tie

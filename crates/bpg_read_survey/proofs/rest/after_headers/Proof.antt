@@ -4,7 +4,6 @@ use mathlib.Core.List.{List}
 use Prim.Native.Nat.{ℕ}
 use lib.ListN.{drop}
 use borrow.Author.Rules.{rules}
-use borrow.Author.Tests.{not-true, not-false}
 use Rattle.bpg_format.specs.Tests.{data_allowed}
 use Rattle.bpg_read_survey.proofs.BodyLaws.{to_end, stops-there, data-stops, goes_on}
 use Rattle.bpg_read_survey.proofs.rest.after_headers.Statement.{statement}

@@ -4,7 +4,6 @@ use mathlib.Core.Bool.{Bool, true, not, ◌||◌}
 use mathlib.Core.List.{List}
 use Prim.Native.Nat.{ℕ}
 use native.Mathlib.Omega.{arith}
-use borrow.Author.Tests.{not-true, not-false}
 use Rattle.bpg_format.specs.Content.{bit_depth}
 use Rattle.bpg_format.specs.Read.{Head}
 use Rattle.bpg_read_entries.specs.declared.block.Block.{Block}

@@ -3,7 +3,6 @@ use mathlib.Core.Path.{◌≡◌, refl, sym, ap, ◌∙◌}
 use Prim.Native.Nat.{◌-◌, ◌≤◌}
 use native.Mathlib.Omega.{arith}
 use lib.ListN.{length, take, drop}
-use borrow.Author.Tests.{not-true, not-false}
 use Rattle.bpg_format.specs.Limits.{max_entries}
 use Rattle.bpg_format.specs.Records.{used_entries}
 use Rattle.bpg_format.specs.Write.{entries_in_source}

@@ -3,7 +3,6 @@ use mathlib.Core.Path.{◌≡◌, refl, sym, ◌∙◌}
 use Prim.Native.Nat.{◌-◌}
 use native.Mathlib.Omega.{arith}
 use lib.ListN.{length, drop}
-use borrow.Author.Tests.{not-true, not-false}
 use Rattle.bpg_format.specs.Limits.{max_entries}
 use Rattle.bpg_format.specs.Write.{zero_entries, unused_zero}
 use Rattle.bpg_format.proofs.Typed.{entries-count}

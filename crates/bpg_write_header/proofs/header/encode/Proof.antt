@@ -14,18 +14,17 @@ nine : (c : tie.Start) → length c.args.header.range_flags ≡ 9
 nine c = search flags-count
 
 returns : tie.Need-returns
-returns c =
-    (
-      header-gathered c.args.header c.empty.ensures
-          (added_then c.add_sizes-sizes.ensures
-          (added_then c.add_flag-offset.ensures
-          (added_then c.add_flag-pcm_flag.ensures
-          (added_then c.add_pcm-pcm.ensures
-          (added_then c.add_flag-smoothing.ensures
-          (added_then c.add_flag-sps_flag.ensures
-          (added_then c.add_sps-sps.ensures c.add.ensures))))))),
-      λ depth rules. omega (arith, header-short depth c.args.header rules (nine c.before.before.before.before.before.before.before.before.before)),
-    )
+returns c = (
+  header-gathered c.args.header c.empty.ensures
+      (added_then c.add_sizes-sizes.ensures
+      (added_then c.add_flag-offset.ensures
+      (added_then c.add_flag-pcm_flag.ensures
+      (added_then c.add_pcm-pcm.ensures
+      (added_then c.add_flag-smoothing.ensures
+      (added_then c.add_flag-sps_flag.ensures
+      (added_then c.add_sps-sps.ensures c.add.ensures))))))),
+  λ depth rules. omega (arith, header-short depth c.args.header rules (nine c.before.before.before.before.before.before.before.before.before)),
+)
 
 pub encode_spec : {M : Type 1} → statement M
 encode_spec =
