@@ -46,10 +46,8 @@ fn number_at(s: &[u8], at: usize) -> u32 {
 }
 
 fn read_lengths(s: &[u8], lengths: &mut [u32]) {
-    let mut k: usize = 0;
-    while k < lengths.len() {
+    for k in 0..lengths.len() {
         lengths[k] = number_at(s, k * 4);
-        k += 1;
     }
 }
 

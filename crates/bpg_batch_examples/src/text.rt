@@ -17,18 +17,14 @@ fn show_next(v: u64) {
 
 pub(crate) fn show_statuses(list: &[u8]) {
     show(b" statuses");
-    let mut i = 0;
-    while i < list.len() {
-        show_next(list[i] as u64);
-        i += 1;
+    for v in list {
+        show_next(*v as u64);
     }
 }
 
 pub(crate) fn show_offsets(list: &[u32]) {
     show(b" offsets");
-    let mut i = 0;
-    while i < list.len() {
-        show_next(list[i] as u64);
-        i += 1;
+    for v in list {
+        show_next(*v as u64);
     }
 }

@@ -40,10 +40,8 @@ fn number(s: &[u8], k: usize, is_long: bool) -> u64
 pub(crate) fn list(s: &[u8], numbers: &mut [u64], is_long: bool)
     requires { length numbers.old ≤ 400 }
 {
-    let mut k: usize = 0;
-    while k < numbers.len() {
+    for k in 0..numbers.len() {
         numbers[k] = number(s, k, is_long);
-        k += 1;
     }
 }
 

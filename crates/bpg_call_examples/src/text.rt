@@ -18,11 +18,9 @@ pub(crate) fn show_answer(label: &[u8], status: u8, second: usize) {
 
 // Two digits for each byte.
 fn show_bytes(s: &[u8]) {
-    let mut i = 0;
-    while i < s.len() {
-        let pair = bpg_hex::digits(s[i]);
+    for byte in s {
+        let pair = bpg_hex::digits(*byte);
         show(&pair);
-        i += 1;
     }
 }
 
@@ -36,9 +34,7 @@ pub(crate) fn show_hex(bytes: &[u8]) {
 
 // A space before each number.
 pub(crate) fn show_numbers(numbers: &[u64]) {
-    let mut i = 0;
-    while i < numbers.len() {
-        show_number(b" ", numbers[i]);
-        i += 1;
+    for v in numbers {
+        show_number(b" ", *v);
     }
 }

@@ -81,10 +81,8 @@ fn entries(s: &[u8], count: usize) -> [Entry; MAX_ENTRIES]
 {
     let none = zero_entry();
     let mut all = [none; MAX_ENTRIES];
-    let mut k: usize = 0;
-    while k < count {
+    for k in 0..count {
         all[k] = entry(s, ENTRIES + 16 * k);
-        k += 1;
     }
     all
 }

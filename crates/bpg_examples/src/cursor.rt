@@ -21,13 +21,11 @@ fn show_answer(answer: EntryAt) {
 // The 65 answers after the first, of a cursor that then stands at `at`.
 fn show_rest(region: &[u8], at: BytePos) {
     let mut next = at;
-    let mut left: usize = 65;
-    while 0 < left {
+    for _ in 0..65 {
         let step = bpg_cursor::resume(region, next);
         let answer = step.answer;
         show_answer(answer);
         next = step.next;
-        left -= 1;
     }
 }
 

@@ -11,10 +11,8 @@ fn show_answer(label: &[u8], status: u8, offset: usize) {
 }
 
 fn show_list(list: &[u64]) {
-    let mut i = 0;
-    while i < list.len() {
-        text::show_number(b" ", list[i]);
-        i += 1;
+    for v in list {
+        text::show_number(b" ", *v);
     }
 }
 

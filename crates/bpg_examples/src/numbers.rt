@@ -24,10 +24,8 @@ fn wide(x: u8) -> u64
 // The number that bytes make, the high byte first; of more than eight, the last eight.
 fn number(s: &[u8]) -> u64 {
     let mut v: u64 = 0;
-    let mut i = 0;
-    while i < s.len() {
-        v = v % 0x100_0000_0000_0000 * 256 + wide(s[i]);
-        i += 1;
+    for byte in s {
+        v = v % 0x100_0000_0000_0000 * 256 + wide(*byte);
     }
     v
 }

@@ -6,10 +6,8 @@ const MOST: usize = 64;
 
 fn show_list(list: &[u16]) {
     text::show(b" list");
-    let mut i = 0;
-    while i < list.len() {
-        text::show_next(list[i] as u64);
-        i += 1;
+    for v in list {
+        text::show_next(*v as u64);
     }
 }
 

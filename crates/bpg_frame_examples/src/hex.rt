@@ -3,10 +3,8 @@ use crate::text;
 
 // Two digits for each byte.
 pub(crate) fn show(s: &[u8]) {
-    let mut i = 0;
-    while i < s.len() {
-        let pair = bpg_hex::digits(s[i]);
+    for byte in s {
+        let pair = bpg_hex::digits(*byte);
         text::show(&pair);
-        i += 1;
     }
 }

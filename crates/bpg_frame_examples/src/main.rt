@@ -47,10 +47,8 @@ fn take(bytes: &mut [u8], line: HexLine, c: u8) -> HexLine {
 // Each line of the text; the answer is what follows the last.
 fn show_lines(s: &[u8], bytes: &mut [u8], begun: HexLine) -> HexLine {
     let mut line = begun;
-    let mut i = 0;
-    while i < s.len() {
-        line = take(bytes, line, s[i]);
-        i += 1;
+    for c in s {
+        line = take(bytes, line, *c);
     }
     line
 }
@@ -66,9 +64,7 @@ fn main() {
     let mut space = io::buffer();
     let bytes: &mut [u8] = &mut space;
     let mut line = bpg_hex::none();
-    let mut left: usize = 8;
-    while 0 < left {
+    for _ in 0..8 {
         line = show_chunk(bytes, line);
-        left -= 1;
     }
 }

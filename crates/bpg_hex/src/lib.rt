@@ -21,6 +21,7 @@ pub fn none() -> HexLine
 }
 
 // A digit's value, or 16.
+#[tactic(auto, unfolding(crate::specs::HexLines::digit_value, bpg_codec::specs::Select::select))]
 fn digit(c: u8) -> u8
     ensures upper_bound { result ≤ 16 }
     ensures value { result ≡ digit_value c }
@@ -34,6 +35,7 @@ fn digit(c: u8) -> u8
 
 // Takes one more character of a line, whose bytes are put into a buffer. What is not a digit is passed over, and so is a comment
 // from `#` on, and what does not fit.
+#[tactic(auto, unfolding(crate::specs::HexLines::after_character, bpg_codec::specs::Select::select))]
 pub fn extend(bytes: &mut [u8], line: HexLine, c: u8) -> HexLine
     ensures value { result ≡ line_after (count bytes.old) line c }
     ensures bytes_after { bytes.new ≡ bytes_after bytes.old line c }
@@ -67,6 +69,7 @@ pub fn extend(bytes: &mut [u8], line: HexLine, c: u8) -> HexLine
 }
 
 // The digit of a number below 16.
+#[tactic(auto, unfolding(bpg_codec::specs::Select::select))]
 fn glyph(n: u8) -> u8
     requires { n < 16 }
     ensures { result ≡ digit_of n }

@@ -1,22 +1,22 @@
 // Reads files of zeros, about as long as a file may be, and prints a line for each: its length, and the line of its reading.
 // The lengths are the lines of standard input.
 //
-// Such a file is longer than the stack. None is stored: `read` is called in one place, before anything is written, and there the
-// compiler sees that each byte to be looked at is 0.
+// Such a file is longer than the stack: the zeros stand on the heap, once for all lengths.
 #![tactic(auto)]
 
-ghost use Rattle.std.specs.Prelude.{◌≡◌, length as count};
+ghost use Rattle.std.specs.Prelude.{◌≡◌, IfOk, vec_len};
 
 use bpg_format::Reading;
 use bpg_show_line::line;
+use std::alloc::{AllocError, Global};
 
 // A little more than a file may have.
 const SPACE: usize = 16_777_300;
 
-fn zeros() -> [u8; SPACE]
-    ensures { 16777300 ≡ count result }
+fn zeros(alloc: Global) -> Result<Vec<u8>, AllocError>
+    ensures { IfOk result (λ space. 16777300 ≡ vec_len space) }
 {
-    [0; SPACE]
+    vec![in alloc; 0; SPACE]
 }
 
 // The first bytes of a buffer.
@@ -43,32 +43,27 @@ fn show_file(space: &[u8], length: usize) {
     show_reading(reading);
 }
 
-fn show_zeros(length: usize) {
-    let space = zeros();
-    show_file(&space, length);
-}
-
 // A length with one more digit, of which the last nine are kept.
 fn lengthened(length: usize, c: u8) -> usize {
     length % 100_000_000 * 10 + (c % 16) as usize
 }
 
-fn show_lengths(s: &[u8]) {
+fn show_lengths(space: &[u8], s: &[u8]) {
     let mut size = 0;
-    let mut i = 0;
-    while i < s.len() {
-        if s[i] == b'\n' {
-            show_zeros(size);
+    for c in s {
+        if *c == b'\n' {
+            show_file(space, size);
             size = 0;
         } else {
-            size = lengthened(size, s[i]);
+            size = lengthened(size, *c);
         }
-        i += 1;
     }
 }
 
-fn main() {
-    let mut space = io::large_buffer();
-    let n = io::read_full(0, &mut space);
-    show_lengths(&space[..n]);
+fn main(rt: HostRuntime) -> Result<(), AllocError> {
+    let mut text = io::large_buffer();
+    let n = io::read_full(0, &mut text);
+    let space = zeros(rt.alloc())?;
+    show_lengths(&space, &text[..n]);
+    Ok(())
 }

@@ -87,10 +87,8 @@ fn sample_at(s: &[u8], at: usize) -> u16 {
 }
 
 fn read_samples(s: &[u8], samples: &mut [u16]) {
-    let mut k: usize = 0;
-    while k < samples.len() {
+    for k in 0..samples.len() {
         samples[k] = sample_at(s, k * 2);
-        k += 1;
     }
 }
 

@@ -24,9 +24,7 @@ pub(crate) fn show_answer(answer: Converted) {
 
 pub(crate) fn show_buffer(buffer: &[u16]) {
     show(b" |");
-    let mut i = 0;
-    while i < buffer.len() {
-        show_next(buffer[i] as u64);
-        i += 1;
+    for v in buffer {
+        show_next(*v as u64);
     }
 }

@@ -10,10 +10,8 @@ const MOST: usize = 70_000;
 
 // A payload of bytes that differ from their neighbours.
 fn fill(payload: &mut [u8]) {
-    let mut k: usize = 0;
-    while k < payload.len() {
+    for k in 0..payload.len() {
         payload[k] = (k % 251) as u8;
-        k += 1;
     }
 }
 

@@ -111,10 +111,8 @@ fn take(bytes: &mut [u8], line: HexLine, c: u8) -> HexLine {
 
 fn show_lines(s: &[u8], bytes: &mut [u8]) {
     let mut line = bpg_hex::none();
-    let mut i = 0;
-    while i < s.len() {
-        line = take(bytes, line, s[i]);
-        i += 1;
+    for c in s {
+        line = take(bytes, line, *c);
     }
 }
 

@@ -36,9 +36,7 @@ pub(crate) fn number8(s: &[u8], at: usize) -> u64 {
 
 // Numbers of two bytes, as many as are asked for.
 pub(crate) fn read_list(s: &[u8], list: &mut [u16]) {
-    let mut k: usize = 0;
-    while k < list.len() {
+    for k in 0..list.len() {
         list[k] = number2(s, k * 2);
-        k += 1;
     }
 }

@@ -1,2 +1,0 @@
--- The laws of lines of hex digits.
-pub mod HexLaws
