@@ -1,6 +1,6 @@
 /* Reading, writing and canonicalizing BPG 0.9.5 files.
  *
- * The functions without a body here are those of the proved library (libbpg, made from crates/bpg_export): what each one answers is
+ * The functions without a body here are those of the proved library (libbpg, made from crates/bpg_export_c): what each one answers is
  * proved, for every input. The proof does not cover
  *   - a pointer that is null or not aligned (with a length of 0 pass any valid address), or memory that is shorter than its length says;
  *   - memory that is written and overlaps anything else that is passed: out, or a list (numbers, durations), with file, source, unit, bytes,

@@ -1,6 +1,6 @@
 /* The loop player: which frame of an animated BPG file stands at a time.
  *
- * A library of its own (libloop_player, made from crates/loop_player_export), above the one that reads files. What each function here answers is
+ * A library of its own (libloop_player, made from crates/loop_player_export_c), above the one that reads files. What each function here answers is
  * proved, for every input. The proof does not cover
  *   - a pointer that is null or not aligned (with a length of 0 pass any valid address), or memory that is shorter than its length says;
  *   - results that overlap each other, the durations or the file;

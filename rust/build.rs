@@ -9,7 +9,7 @@ use std::time::Instant;
 
 const FOLDER: &str = "BPG_LIBRARY_DIR";
 
-/// What `../build` calls a library, and its archive as `./install` and as `rt staticlib` name it.
+/// What `../build` calls a library, and its archive as `./install` and as `../build` name it.
 struct Library {
     name: &'static str,
     installed: &'static str,
@@ -71,7 +71,7 @@ fn variable(name: &str) -> String {
     env::var(name).unwrap_or_else(|_| panic!("cargo sets {name}"))
 }
 
-/// A library that was made elsewhere, as `./install` or `rt staticlib` names it.
+/// A library that was made elsewhere, as `./install` or `../build` names it.
 fn named(library: &Library, folder: &Path) -> PathBuf {
     let [installed, made] = [library.installed, library.made];
     let archives = [installed, made].map(|name| folder.join(name));
@@ -92,7 +92,8 @@ fn own(library: &Library) -> PathBuf {
     if !list.exists() {
         fail(&format!("this package stands outside its repository: {FOLDER} must name the folder of a library that was made there"));
     }
-    for source in [&crates, &list] {
+    println!("cargo:rerun-if-changed={}", list.display());
+    for source in sources(&crates) {
         println!("cargo:rerun-if-changed={}", source.display());
     }
     let archive = root.join("target/staticlib").join(library.made);
@@ -105,6 +106,13 @@ fn own(library: &Library) -> PathBuf {
         println!("cargo:warning=the proved static library {made} was not there or older than the crates: made again in {seconds} s");
     }
     archive
+}
+
+/// The folders that the crates are made of. Beside them stands `out/`, which each check changes.
+fn sources(crates: &Path) -> Vec<PathBuf> {
+    let found = crates.read_dir().into_iter().flatten().flatten();
+    let parts = found.flat_map(|it| ["src", "specs", "proofs"].map(|part| it.path().join(part)));
+    parts.filter(|part| part.exists()).collect()
 }
 
 fn modified(archive: &Path) -> Option<std::time::SystemTime> {

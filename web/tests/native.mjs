@@ -16,7 +16,7 @@ const libraries = ['bpg_export', 'loop_player_export'].map((name) => path(`../..
 const driver = path('../../target/web/native');
 
 if (!libraries.every(existsSync) || spawnSync('cc', ['--version']).error) {
-  console.log('native: skipped, a native library (rt staticlib bpg_export, rt staticlib loop_player_export) or cc is not here');
+  console.log('native: skipped, a native library (./build library, ./build player) or cc is not here');
   process.exit(0);
 }
 mkdirSync(path('../../target/web'), { recursive: true });

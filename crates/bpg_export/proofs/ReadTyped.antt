@@ -53,9 +53,9 @@ loop-typed p (e ∷ es) a h = by-tag (is_animation e) (λ w. let d = a.0.control
 -- ---- the entries
 
 -- a tag stands before its payload
-tags-before : (p : ℕ) (es : List Extension) → All (λ (e : Entry). e.tag_offset ≤ e.payload.start) (entries_at p es)
-tags-before p [] = tt
-tags-before p (e ∷ es) = (omega arith, tags-before _ es)
+tags-before : (es : List Extension) (p : ℕ) → All (λ (e : Entry). e.tag_offset ≤ e.payload.start) (entries_at p es)
+tags-before [] p = tt
+tags-before (e ∷ es) p = (omega arith, tags-before es _)
 
 module _ (file : List ℕ) (short : length file ≤ max_file) (p : AnimationControl) where
   used-typed : (es : List Entry) → All (ExtensionRules p) (map (extension_of file) es) → All (λ (e : Entry). e.payload.start + e.payload.length ≤ length file) es
@@ -84,7 +84,7 @@ module _ (c : Content) (r : Rules c) where
   tags-first : All (λ (e : Entry). e.tag_offset ≤ e.payload.start) (used_entries (content_record c))
   unfolding content_record
   tags-first =
-      subst (All (λ (e : Entry). e.tag_offset ≤ e.payload.start)) (sym (used-entries (block_start c) c.extensions)) (tags-before (block_start c) c.extensions)
+      subst (All (λ (e : Entry). e.tag_offset ≤ e.payload.start)) (sym (used-entries (block_start c) c.extensions)) (tags-before c.extensions (block_start c))
 
   unused-zero : All (λ (e : Entry). e ≡ zero_entry) (drop (content_record c).entry_count (content_record c).entries)
   unfolding content_record

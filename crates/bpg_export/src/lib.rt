@@ -1,4 +1,4 @@
-// The library for C and Rust: numbers and slices alone. include/bpg.h declares these functions for C.
+// The calls for C and Rust: numbers and slices alone. bpg_export_c exports them, and include/bpg.h declares them for C.
 #![tactic(auto)]
 
 mod batch;
@@ -17,9 +17,15 @@ ghost use Rattle.bpg_format.specs.Pictures.{canonical_file, canonical_buffer};
 ghost use Rattle.bpg_import_list.specs.Calls.{write_answer, write_bytes};
 ghost use Rattle.bpg_export_read.specs.Calls.{read_answer, read_numbers};
 
+pub use batch::bpg_batch;
 use bpg_parts::EntryAt;
 pub use frames::{bpg_escape, bpg_frame_count, bpg_frames, bpg_unescape};
 pub use heads::{bpg_body, bpg_head};
+pub use partition::bpg_partition;
+pub use samples::{
+    bpg_cmyk, bpg_default_from_white, bpg_limited_luma, bpg_unpremultiply, bpg_ycgco,
+};
+pub use segments::{bpg_export_segments, bpg_import_segments};
 pub use sizes::{bpg_canonical_size, bpg_write_size};
 pub use thumbnails::bpg_check_thumbnails;
 

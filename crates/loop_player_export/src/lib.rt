@@ -1,4 +1,4 @@
-// The loop player for C and Rust: numbers and slices alone. include/loop_player.h declares these functions for C.
+// The loop player for C and Rust: numbers and slices alone. loop_player_export_c exports these calls, and include/loop_player.h declares them for C.
 #![tactic(auto)]
 
 ghost use Rattle.std.specs.Prelude.{◌≡◌};
