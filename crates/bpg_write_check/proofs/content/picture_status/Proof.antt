@@ -2,7 +2,6 @@
 use mathlib.Core.Path.{◌≡◌, sym, ◌∙◌}
 use mathlib.Core.Bool.{true}
 use Prim.Native.Nat.{◌≤◌}
-use borrow.Author.Tests.{not-true, not-false}
 use Rattle.bpg_write_check.proofs.ContentLaws.{space_allowed, format-large, depth-large, space-broken, no-width, no-height, picture-passes}
 use Rattle.bpg_format.specs.declared.record.Record.{Record}
 use borrow.Author.Rules.{rules}

@@ -1,6 +1,5 @@
 -- `entries::control_status` meets its contract.
 use mathlib.Core.Path.{◌≡◌, sym, ap, ◌∙◌}
-use borrow.Author.Tests.{not-true, not-false}
 use Rattle.bpg_write_check.proofs.EntryLaws.{range-bytes, payload-refused, loop-differs, loop-same}
 use mathlib.Core.List.{List}
 use Prim.Native.Nat.{ℕ}

@@ -1,7 +1,6 @@
 -- `header::status` meets its contract.
 use mathlib.Core.Path.{◌≡◌, sym, ◌∙◌}
 use mathlib.Core.Bool.{true}
-use borrow.Author.Tests.{not-true, not-false}
 use Rattle.bpg_format.specs.Tests.{no_forbidden_bit}
 use Rattle.bpg_format.specs.Write.{fields_coded}
 use Rattle.bpg_write_check.proofs.HeaderLaws.{not-coded, forbidden-bit, not-allowed, header-passes}

@@ -3,7 +3,6 @@ use mathlib.Core.Path.{◌≡◌, sym, ap, ◌∙◌}
 use mathlib.Core.Bool.{Bool, false, true≢false}
 use native.Mathlib.Omega.{arith}
 use borrow.Author.Rules.{rules}
-use borrow.Author.Tests.{not-true}
 use Rattle.bpg_write_bits.specs.declared.BitBuffer.{BitBuffer}
 use Rattle.bpg_write_bits.proofs.BitBufferLaws.{gathered-most}
 use Rattle.bpg_format.specs.declared.record.Header.{Header}

@@ -4,7 +4,6 @@ use mathlib.Core.List.{List, [], ◌++◌}
 use Prim.Native.Nat.{ℕ}
 use native.Mathlib.Omega.{arith}
 use lib.ListN.{length}
-use borrow.Author.Tests.{not-true, not-false}
 use Rattle.bpg_codec.specs.Bits.{bytes_for}
 use Rattle.bpg_codec.proofs.Select.{select-true}
 use Rattle.bpg_ue7.specs.Ue7.{ue7_bytes}
