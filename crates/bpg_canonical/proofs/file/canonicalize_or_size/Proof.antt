@@ -22,7 +22,7 @@ returns-2 c =
     let t = c.args.sizing in
     let e1 = ap (λ (x : Record). select t (write_size x file) (write_file x file out)) c.canonical-canonical.ensures in
     let e2 = ap (λ (x : Record). select t out (write_buffer x file out)) c.canonical-canonical.ensures in
-    let a = canonicalized file c.read-reading.result c.read-reading.ensures.0 out t (all-bytes file (λ i. omega (arith, c.shared_slice_known-1.given i))) c.if-reading-ne0.false in
+    let a = canonicalized file c.read-reading.result c.read-reading.ensures.0 out t (all-bytes file (λ i. omega (arith, c.shared_slice_known-1.given i))) (omega arith) in
     (c.write_or_size.ensures.0 ∙ e1 ∙ a.0, c.write_or_size.ensures.1 ∙ e2 ∙ a.1)
 
 pub canonicalize_or_size_spec : {M : Type 1} → statement M

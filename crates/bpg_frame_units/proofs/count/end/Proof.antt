@@ -1,5 +1,6 @@
 -- `count::end` meets its contract.
 use mathlib.Core.Path.{sym, ◌∙◌}
+use native.Mathlib.Omega.{arith}
 use borrow.Author.Rules.{rules}
 use borrow.Author.Tests.{eq-eqb, ne_eqb}
 use Rattle.bpg_codec.proofs.Select.{select-true, select-false}
@@ -11,5 +12,5 @@ end_spec =
     tie.close
     (tie.spec
     (λ c κs. search rules)
-    (λ c. c.refused.ensures ∙ sym (select-false _ _ (ne_eqb _ 0 c.if-wait-ne0.true)))
-    (λ c. sym (select-true _ _ (eq-eqb _ 0 c.if-wait-ne0.false))))
+    (λ c. c.refused.ensures ∙ sym (select-false _ _ (ne_eqb c.args.wait.duration 0 (omega arith))))
+    (λ c. sym (select-true _ _ (eq-eqb c.args.wait.duration 0 (omega arith)))))

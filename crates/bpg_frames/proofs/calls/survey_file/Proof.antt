@@ -1,7 +1,6 @@
 -- `calls::survey_file` meets its contract.
 use native.Mathlib.Omega.{arith}
 use borrow.Author.Rules.{rules}
-use borrow.Author.Tests.{not-true, not-false}
 use Rattle.bpg_codec.specs.Lawful.{All, Byte}
 use Rattle.bpg_codec.proofs.Tokens.{all-bytes}
 use Rattle.bpg_frames.proofs.CallLaws.{survey-unread, survey-refused, survey-few, survey-done}

@@ -4,7 +4,6 @@ use Prim.Native.Nat.{◌<◌}
 use native.Mathlib.Omega.{arith}
 use lib.ListN.{length, set, length-set}
 use borrow.Author.Rules.{rules}
-use borrow.Author.Tests.{not-true, not-false}
 use Rattle.bpg_codec.proofs.Select.{select-true, select-false}
 use Rattle.bpg_frames.proofs.store.put.Statement.{statement}
 use Rattle.bpg_frames.proofs.store.put.Tie as tie

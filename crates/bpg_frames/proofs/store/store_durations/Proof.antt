@@ -40,14 +40,14 @@ span k = store-span (at k).loop-found.invariant (st (at k)).requires _ k.cut_at-
 code : (k : tie.After-cut_at-cut invariant-loop decreases-loop) → k.cut_at-cut.result.code.0 < length (st (at k)).args.file.now
 code k =
     store_code (at k).loop-found.invariant (st (at k)).requires _ k.starts_frame-starts.ensures _ k.put-found.ensures.0 _ k.put-found.ensures.1
-    k.if-count-found.false _ k.cut_at-cut.ensures
+    (omega arith) _ k.cut_at-cut.ensures
 
 loop-again : tie.Need-loop-found-preserved invariant-loop decreases-loop
 loop-again c =
     let k = c.before.before.before.before in
     let h = store-header (at k).loop-found.invariant (st (at k)).requires _ c.cut_at-cut.ensures in
     store-more (at k).loop-found.invariant (st (at k)).requires _ c.starts_frame-starts.ensures _ c.put-found.ensures.0 _ c.put-found.ensures.1
-    c.if-count-found.false _ c.cut_at-cut.ensures _ (c.verdict_on-verdict.ensures h) _ c.wait_after-wait.ensures
+    (omega arith) _ c.cut_at-cut.ensures _ (c.verdict_on-verdict.ensures h) _ c.wait_after-wait.ensures
 
 pub store_durations_spec : {M : Type 1} → statement M
 store_durations_spec =

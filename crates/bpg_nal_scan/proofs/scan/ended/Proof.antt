@@ -1,8 +1,10 @@
 -- `scan::ended` meets its contract, case by case.
 use Prim.Native.Nat.{ℕ, ◌+◌, ◌-◌, ◌≤◌, ◌<◌}
 use mathlib.Core.Path.{◌≡◌, sym, ◌∙◌}
+use mathlib.Core.Logic.{◌≢◌}
 use mathlib.Core.List.{List}
 use lib.ListN.{length, get_or}
+use native.Mathlib.Omega.{arith}
 use borrow.Author.Rules.{rules}
 use borrow.Author.Tests.{eq-eqb, ne_eqb, le-leb, lt-leb}
 use Rattle.bpg_codec.proofs.Select.{select-true, select-false}
@@ -25,13 +27,10 @@ module _ (d : List ℕ) (i past : ℕ) (e : past ≡ offset_from not_zero d (i +
 returns : tie.Need-returns-then-region-past
 returns c = c.kept.ensures ∙ last _ _ _ c.zeros_end-past.ensures c.if-region-past.true
 
-returns-2 : tie.Need-returns-then-region-past-ne1
-returns-2 c =
-    c.broken.ensures ∙ other _ _ _ c.zeros_end-past.ensures c.if-region-past.false c.if-region-past-ne1.true
-
 returns-3 : tie.Need-returns
 returns-3 c =
-    c.kept-2.ensures ∙ code _ _ _ c.zeros_end-past.ensures c.if-region-past.false c.if-region-past-ne1.false
+    let one : get_or c.args.region.now c.zeros_end-past.result.0 0 ≡ 1 = omega arith in
+    c.kept-2.ensures ∙ code _ _ _ c.zeros_end-past.ensures c.if-region-past.false one
 
 pub ended_spec : {M : Type 1} → statement M
 ended_spec =
@@ -43,7 +42,7 @@ ended_spec =
     returns
     (λ c. search rules)
     (λ c κs. search rules)
-    returns-2
+    (λ c. let other-byte : get_or c.args.region.now c.zeros_end-past.result.0 0 ≢ 1 = omega arith in c.broken.ensures ∙ other _ _ _ c.zeros_end-past.ensures c.if-region-past.false other-byte)
     (λ c. search rules)
     (λ c κs. search rules)
     returns-3)

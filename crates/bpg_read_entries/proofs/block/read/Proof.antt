@@ -97,7 +97,7 @@ module _ (c : tie.After-struct_known-in-loop-next-1 invariant-loop decreases-loo
   here = step-started _ false _ (step read) read.read-step.ensures (omega (arith, read.loop-next-test.true)) c.if-step-ne0.false
 
   less : max_entries - ((turn read).loop-next.entry_count + 1) < max_entries - (turn read).loop-next.entry_count
-  less = omega (arith, read.if-entry_count-ge-MAX_ENTRIES.false)
+  less = omega arith
 
 control-requires : tie.Need-control-found-requires invariant-loop decreases-loop
 control-requires c κs = (here c.before).inside

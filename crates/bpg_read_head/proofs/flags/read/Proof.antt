@@ -4,6 +4,7 @@ use mathlib.Core.Bool.{true}
 use mathlib.Core.List.{List}
 use Prim.Native.Nat.{ℕ}
 use lib.ListN.{take}
+use native.Mathlib.Omega.{arith}
 use borrow.Author.Rules.{rules}
 use Rattle.bpg_codec.specs.Lists.{same}
 use Rattle.bpg_format.specs.Syntax.{magic}
@@ -11,12 +12,9 @@ use Rattle.bpg_read_head.proofs.FlagLaws.{too_short, no-magic, no-format, no-dep
 use Rattle.bpg_read_head.proofs.flags.read.Statement.{statement}
 use Rattle.bpg_read_head.proofs.flags.read.Tie as tie
 
-returns : tie.Need-returns-then-file-lt6
-returns c = c.refused.ensures ∙ too_short _ c.if-file-lt6.true
-
 returns-2 : tie.Need-returns-then-not-has_magic
 returns-2 c =
-    c.refused-then-not-has_magic.ensures ∙ no-magic _ c.if-file-lt6.false (sym c.has_magic.ensures ∙ c.if-not-has_magic.true)
+    c.refused-then-not-has_magic.ensures ∙ no-magic c.args.file.now (omega arith) (sym c.has_magic.ensures ∙ c.if-not-has_magic.true)
 
 -- the magic is there
 module _ (c : tie.Else-not-has_magic) where
@@ -29,25 +27,25 @@ module _ (c : tie.Else-not-has_magic) where
 returns-3 : tie.Need-returns-then-byte4-gt5
 returns-3 c =
     let m = c.before.before.before.before in
-    c.refused-then-byte4-gt5.ensures ∙ no-format (file m) c.if-file-lt6.false (has-magic m) c.if-byte4-gt5.true
+    c.refused-then-byte4-gt5.ensures ∙ no-format (file m) (omega arith) (has-magic m) c.if-byte4-gt5.true
 
 returns-4 : tie.Need-returns-then-byte4-gt6
 returns-4 c =
     let m = c.before.before.before.before.before in
-    c.refused-then-byte4-gt6.ensures ∙ no-depth (file m) c.if-file-lt6.false (has-magic m) c.if-byte4-gt5.false c.if-byte4-gt6.true
+    c.refused-then-byte4-gt6.ensures ∙ no-depth (file m) (omega arith) (has-magic m) c.if-byte4-gt5.false c.if-byte4-gt6.true
 
 returns-5 : tie.Need-returns-then-not-color_space_allowed
 returns-5 c =
     let m = c.before.before.before.before.before.before.before in
     c.refused-then-not-color_space_allowed.ensures
-    ∙ no-space (file m) c.if-file-lt6.false (has-magic m) c.if-byte4-gt5.false c.if-byte4-gt6.false
+    ∙ no-space (file m) (omega arith) (has-magic m) c.if-byte4-gt5.false c.if-byte4-gt6.false
     (sym c.color_space_allowed.ensures ∙ c.if-not-color_space_allowed.true)
 
 returns-6 : tie.Need-returns
 returns-6 c =
     let m = c.before.before.before.before.before.before.before in
     rw c.from_bytes-flags.ensures
-    (all-kept (file m) c.if-file-lt6.false (has-magic m) c.if-byte4-gt5.false c.if-byte4-gt6.false
+    (all-kept (file m) (omega arith) (has-magic m) c.if-byte4-gt5.false c.if-byte4-gt6.false
     (sym c.color_space_allowed.ensures ∙ c.if-not-color_space_allowed.false))
 
 pub read_spec : {M : Type 1} → statement M
@@ -55,7 +53,7 @@ read_spec =
     tie.close
     (tie.spec
     (λ c κs. search rules)
-    returns
+    (λ c. c.refused.ensures ∙ too_short c.args.file.now (omega arith))
     (λ c κs. search rules)
     (λ c κs. search rules)
     returns-2

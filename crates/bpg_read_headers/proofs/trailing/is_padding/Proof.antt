@@ -25,9 +25,9 @@ module _ (c : tie.After-count-end) where
   counted = c.count-end.ensures
 
 -- and there are fewer than eight
-module _ (c : tie.Else-left-ge8) where
+module _ (c : tie.After-byte_of-byte) where
   abbrev start : tie.After-count-end
-  start = c.before.before
+  start = c.before.before.before
 
   abbrev left : ℕ
   left = start.count-end.result - at start
@@ -36,7 +36,7 @@ module _ (c : tie.Else-left-ge8) where
   some = omega (arith, c.if-end-start.false)
 
   few : left < 8
-  few = omega (arith, c.if-left-ge8.false)
+  few = omega arith
 
   shifted : (1 * 2 ^ left) % 2 ^ 8 ≡ 2 ^ left
   shifted = one_shifted left 8 few
@@ -51,16 +51,16 @@ returns-2 c =
 
 shared-slice-read-result : tie.Need-bounds-region-byte
 shared-slice-read-result c =
-    let k = c.before.before in
+    let k = c.before in
     let l = region (start k) in
     omega (arith, some k, counted (start k), c.byte_of-byte.ensures, length-unpack (take (2 ^ 60) l), length-take (2 ^ 60) l)
 
 rem-result : tie.Need-nonzero_rem-result
-rem-result c = let k = c.before.before in rw (shifted k) (pow_pos (left k))
+rem-result c = let k = c.before in rw (shifted k) (pow_pos (left k))
 
 returns-3 : tie.Need-returns
 returns-3 c =
-    let k = c.before.before in
+    let k = c.before in
     let l = region (start k) in
     rw (shifted k)
     (decided l (at (start k)) (left k) _ (omega (arith, counted (start k))) (some k) (few k) (ap (λ (k : ℕ). get_or l k 0) c.byte_of-byte.ensures))

@@ -1,7 +1,6 @@
 -- `content::next` meets its contract.
 use mathlib.Core.Path.{refl, sym, ◌∙◌}
 use borrow.Author.Rules.{rules}
-use borrow.Author.Tests.{not-true, not-false}
 use Rattle.bpg_sei.proofs.StepLaws.{no_step, past_end, step-byte, mark-last, step-mark}
 use Rattle.bpg_sei.proofs.content.next.Statement.{statement}
 use Rattle.bpg_sei.proofs.content.next.Tie as tie

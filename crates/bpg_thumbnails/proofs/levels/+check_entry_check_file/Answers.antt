@@ -1,5 +1,5 @@
 -- `levels::check_entry` and `levels::check_file` meet their contracts, case by case.
-use Rattle.std.proofs.Common.{arith, rules}
+use Rattle.std.proofs.Common.{arith}
 use Rattle.bpg_thumbnails.proofs.LevelLaws.{entry_other, entry-deep, entry-unread, entry-large, entry-entered}
 use Rattle.bpg_thumbnails.proofs.LevelLaws.{count_most, entry_at, file-stops, file-goes-on, file-ends}
 use Rattle.bpg_thumbnails.proofs.levels.+check_entry_check_file.Goals as goal
