@@ -1,6 +1,6 @@
 -- Request 7/13's theorems on the rules.
 use mathlib.Core.Path.{◌≡◌, refl, ap, ◌∙◌}
-use Prim.Native.Nat.{ℕ, ◌-◌, ◌*◌, ◌≤◌, ◌<◌, min}
+use Prim.Native.Nat.{ℕ, ◌*◌, ◌≤◌, ◌<◌, min}
 use native.Mathlib.Nat.{min-le_left, min-eq_right, mul-le-mul}
 use native.Mathlib.Omega.{arith}
 use lib.Dec.{eqb}

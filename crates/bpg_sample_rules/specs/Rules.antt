@@ -1,5 +1,5 @@
 -- The rules of one sample: source document 001, and request 7/13, which rounds. Where 001 has 1, the largest value of a component, a sample has m.
-use Rattle.std.specs.Prelude.{ℕ, ◌+◌, ◌-◌, ◌*◌, ◌^◌, min, eqb, ltb, ℤ, pos, negsuc, ◌+ℤ◌, ◌-ℤ◌}
+use Rattle.std.specs.Prelude.{ℕ, ◌-◌, ◌*◌, ◌^◌, min, eqb, ltb, ℤ, pos, negsuc, ◌+ℤ◌, ◌-ℤ◌}
 use Rattle.bpg_codec.specs.Select.{select}
 use Rattle.bpg_sample_rules.specs.Nearest.{nearest}
 

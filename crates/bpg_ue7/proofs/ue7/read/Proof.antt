@@ -88,13 +88,13 @@ returns-2 : tie.Need-returns-then-first invariant-loop decreases-loop
 returns-2 c = ap number_answer (marked _ _ _ (omega arith) c.if-first.true)
 
 returns-3 : tie.Need-returns-then-most-low invariant-loop decreases-loop
-returns-3 c = ap number_answer (first-large _ _ _ (omega arith) c.if-first.false (omega arith))
+returns-3 c = ap number_answer (first-large _ _ _ (omega arith) (omega arith) (omega arith))
 
 returns-4 : tie.Need-returns-then-first-lt128 invariant-loop decreases-loop
-returns-4 c = ap number_answer (first_done _ _ _ (omega arith) c.if-first.false (omega (arith, some c.before.before)) (omega arith))
+returns-4 c = ap number_answer (first_done _ _ _ (omega arith) (omega arith) (omega (arith, some c.before.before)) (omega arith))
 
 loop-holds : tie.Need-loop-next-init invariant-loop decreases-loop
-loop-holds c = (omega arith, first_more _ _ _ (omega arith) c.if-first.false (omega (arith, some c.before.before)) (omega arith))
+loop-holds c = (omega arith, first_more _ _ _ (omega arith) (omega arith) (omega (arith, some c.before.before)) (omega arith))
 
 returns-5 : tie.Need-returns-then-most-value invariant-loop decreases-loop
 returns-5 c = ap number_answer (large _ _ _ _ _ c.loop-next.invariant.1 (omega arith) (omega arith))
