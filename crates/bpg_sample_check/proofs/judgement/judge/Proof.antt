@@ -4,7 +4,6 @@ use mathlib.Core.Bool.{true, ◌&&◌}
 use native.Mathlib.Omega.{arith}
 use lib.Dec.{eqb, leb}
 use borrow.Author.Rules.{rules}
-use borrow.Author.Tests.{not-true, not-false}
 use Rattle.bpg_sample_check.specs.Judgement.{every}
 use Rattle.bpg_sample_check.specs.Answers.{answer_of}
 use Rattle.bpg_sample_check.proofs.DepthLaws.{above-max, within-max}
