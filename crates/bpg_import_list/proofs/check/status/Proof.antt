@@ -5,7 +5,6 @@ use Prim.Native.Nat.{ℕ, ◌*◌, ◌-◌}
 use native.Mathlib.Omega.{arith}
 use lib.ListN.{take, drop}
 use borrow.Author.Rules.{rules}
-use borrow.Author.Tests.{not-true, not-false}
 use Rattle.bpg_export_list.specs.Numbers.{fixed_length, list_length}
 use Rattle.bpg_import_list.specs.Fields.{count_of}
 use Rattle.bpg_import_list.specs.Calls.{words, status_of}

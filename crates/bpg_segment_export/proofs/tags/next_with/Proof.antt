@@ -42,8 +42,7 @@ returns c =
 
 loop-again : tie.Need-loop-k-preserved invariant-loop decreases-loop
 loop-again c =
-    let s = c.before.before.before.before.before.before.before in
-    (
+    let s = c.before.before.before.before.before.before.before in (
       omega (arith, c.loop-k-test.true),
       search-goes-on c.args.tag (used s) c.args.from c.loop-k.k c.loop-k.invariant.1 (omega (arith, c.loop-k-test.true, many s)) _
           (used-entry c.args.«record» c.loop-k.k c.loop-k-test.true) c.if-entry-tag.false,

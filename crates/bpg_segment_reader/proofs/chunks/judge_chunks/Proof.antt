@@ -4,7 +4,6 @@ use Prim.Native.Nat.{◌-◌, ◌≤◌}
 use native.Mathlib.Omega.{arith}
 use lib.ListN.{length, drop}
 use borrow.Author.Rules.{rules}
-use borrow.Author.Tests.{not-true, not-false}
 use Rattle.bpg_segment_reader.proofs.ChunkLaws.{Walked, walked_none, walked_end, walked-none-there, walked-short, walked_more, icc-is}
 use Rattle.bpg_segment_reader.proofs.chunks.judge_chunks.Statement.{statement}
 use Rattle.bpg_segment_reader.proofs.chunks.judge_chunks.Tie as tie

@@ -1,7 +1,6 @@
 -- `segment::part_at` meets its contract.
-use Prim.Native.Nat.{◌+◌, ◌-◌, ◌≤◌}
+use Prim.Native.Nat.{◌+◌, ◌≤◌}
 use native.Mathlib.Omega.{arith}
-use borrow.Author.Tests.{not-true, not-false}
 use mathlib.Core.Path.{sym, ◌∙◌}
 use lib.ListN.{length, length-drop}
 use Rattle.bpg_segment_reader.proofs.SegmentLaws.{answered, absent-short, absent-other, present}

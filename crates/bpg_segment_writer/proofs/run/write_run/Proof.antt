@@ -5,7 +5,6 @@ use mathlib.Core.List.{List}
 use Prim.Native.Nat.{ℕ, ◌≤◌}
 use native.Mathlib.Omega.{arith}
 use lib.ListN.{length}
-use borrow.Author.Tests.{not-true, not-false}
 use Rattle.bpg_segment_rules.specs.Runs.{Payloads, payloads}
 use Rattle.bpg_segment_rules.specs.Requirements.{Limits}
 use Rattle.bpg_segment_rules.proofs.ChunkLaws.{count-is}

@@ -4,7 +4,7 @@ use mathlib.Core.Bool.{true}
 use Prim.Native.Nat.{◌<◌}
 use native.Mathlib.Omega.{arith}
 use borrow.Author.Rules.{rules}
-use borrow.Author.Tests.{not-true, not-false, ltb-true}
+use borrow.Author.Tests.{ltb-true}
 use Rattle.loop_player.specs.Player.{period_known, ticks_of, ticks_answer}
 use Rattle.loop_player.proofs.Laws.{time-fits, and_left}
 use Rattle.loop_player.proofs.calls.ticks.Statement.{statement}
