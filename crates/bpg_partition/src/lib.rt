@@ -3,6 +3,7 @@
 
 mod answer;
 mod call;
+mod payloads;
 
 pub use answer::Partition;
 pub use call::partition;
