@@ -18,6 +18,13 @@ TYPED = re.compile(r"= load (?:volatile )?|^  store (?:volatile )?|\bgetelementp
 TOKEN = re.compile(r"\s*(<\{|\}>|[\[\]{}<>,]|\d+ x|i\d+|ptr|float|double)")
 
 
+# A number and a pointer that are read as one, as an optional reference is.
+PAIR = re.compile(r"  (%[^ ]+) = load (\{ i\d+, ptr \}), ptr (%[^ ]+), align (\d+)$")
+
+# The address of a pointer, which copying takes to see whether two places overlap.
+ADDRESS = re.compile(r"  (%[^ ]+) = ptrtoaddr ptr (%[^ ]+) to i64$")
+
+
 class Unknown(Exception):
     pass
 
@@ -87,6 +94,27 @@ def stands_as_before(line, at):
     return before == after and (size == other or not is_whole)
 
 
+def apart(line):
+    """Returns the line; for a pair that is read as one, lines that read its parts from the places that x86-64 gives them, and for an address of
+    8 bytes those that widen one of 4 bytes."""
+    address = ADDRESS.match(line)
+    if address:
+        value, pointer = address.groups()
+        return f"  {value}.narrow = ptrtoint ptr {pointer} to i32\n  {value} = zext i32 {value}.narrow to i64\n"
+    pair = PAIR.match(line)
+    if not pair:
+        return line
+    value, kind, place, align = pair.groups()
+    number = kind.split()[1].rstrip(",")
+    return (
+        f"  {value}.number = load {number}, ptr {place}, align {align}\n"
+        f"  {value}.place = getelementptr i8, ptr {place}, i64 8\n"
+        f"  {value}.pointer = load ptr, ptr {value}.place, align 8\n"
+        f"  {value}.half = insertvalue {kind} poison, {number} {value}.number, 0\n"
+        f"  {value} = insertvalue {kind} {value}.half, ptr {value}.pointer, 1\n"
+    )
+
+
 def main(file):
     bad = []
     with open(file, encoding="utf-8") as module:
@@ -94,11 +122,12 @@ def main(file):
             # clang would take each function to be for a processor that WebAssembly has not.
             line = re.sub(r' "(target-cpu|probe-stack|stack-probe-size)"="[^"]*"', "", line)
             line = re.sub(r"= alloca ptr,", "= alloca i64,", line)
-            code = re.sub(r'c?"[^"]*"', '""', line)
-            found = [it.end() for it in TYPED.finditer(code)]
-            if UNFIT.search(code) or not all(stands_as_before(code, at) for at in found):
-                bad.append(f"{file}:{number}: {line.strip()}")
-            sys.stdout.write(line)
+            for each in apart(line).splitlines(keepends=True):
+                code = re.sub(r'c?"[^"]*"', '""', each)
+                found = [it.end() for it in TYPED.finditer(code)]
+                if UNFIT.search(code) and ".narrow = " not in code or not all(stands_as_before(code, at) for at in found):
+                    bad.append(f"{file}:{number}: {each.strip()}")
+                sys.stdout.write(each)
     print(*bad[:20], sep="\n", file=sys.stderr)
     return 1 if bad else 0
 

@@ -9,7 +9,6 @@ use lib.ListN.{length, take, drop, get_or, set, length-set, drop_of_length-le, l
 use lib.Seq.{take_all, take-suc-set, drop-drop}
 use Rattle.bpg_codec.proofs.Lists.{drop-next}
 use Rattle.bpg_format.specs.Records.{read_file}
-use Rattle.bpg_reader.specs.declared.file.Verdict.{Verdict}
 use Rattle.bpg_reader.specs.Calls.{verdict_of}
 use Rattle.bpg_batch.specs.Batches.{files, sum, statuses_of, offsets_of, Complete}
 use Rattle.bpg_batch.proofs.SumLaws.{sum-next}
@@ -67,21 +66,21 @@ module _ {buffer lengths statuses offsets : List ℕ} {start k : ℕ} (s : ReadS
     file-inside = omega (arith, s.adds-up, sum-next lengths k h)
 
     -- the file as a part of the buffer
-    module _ (r : Verdict) (e : r ≡ verdict_of (read_file (take (start + get_or lengths k 0 - start) (drop start buffer)))) where
+    module _ (r : ℕ × ℕ) (e : r ≡ verdict_of (read_file (take (start + get_or lengths k 0 - start) (drop start buffer)))) where
       verdict-is : r ≡ verdict_of (read_file (take (get_or lengths k 0) (drop start buffer)))
       verdict-is = e ∙ ap (λ (n : ℕ). verdict_of (read_file (take n (drop start buffer)))) (add-sub_cancel_left start (get_or lengths k 0))
 
-      pub offset-fits : r.offset ≤ get_or lengths k 0
+      pub offset-fits : r.1 ≤ get_or lengths k 0
       offset-fits =
           let f = take (get_or lengths k 0) (drop start buffer) in
-          omega (arith, ap (λ (x : Verdict). x.offset) verdict-is, offset-inside f, length-take (get_or lengths k 0) (drop start buffer))
+          omega (arith, ap (λ (x : ℕ × ℕ). x.1) verdict-is, offset-inside f, length-take (get_or lengths k 0) (drop start buffer))
 
-      pub read_next : ReadSoFar buffer lengths (set statuses k r.status) (set offsets k r.offset) (start + get_or lengths k 0) (k + 1)
+      pub read_next : ReadSoFar buffer lengths (set statuses k r.0) (set offsets k r.1) (start + get_or lengths k 0) (k + 1)
       read_next =
           record {
             within = omega arith;
-            as-many-statuses = length-set statuses k r.status ∙ s.as-many-statuses;
-            as-many-offsets = length-set offsets k r.offset ∙ s.as-many-offsets;
+            as-many-statuses = length-set statuses k r.0 ∙ s.as-many-statuses;
+            as-many-offsets = length-set offsets k r.1 ∙ s.as-many-offsets;
             adds-up = omega (arith, s.adds-up, sum-next lengths k h);
             first-statuses = rw verdict-is (store-next (λ f. (read_file f).status) lengths buffer statuses start k s.as-many-statuses s.first-statuses h);
             first-offsets = rw verdict-is (store-next (λ f. (read_file f).offset) lengths buffer offsets start k s.as-many-offsets s.first-offsets h);

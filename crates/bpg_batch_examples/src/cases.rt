@@ -1,16 +1,16 @@
 // A case: the lengths and the buffer are taken out of its bytes.
-use crate::text;
+use bpg_cases::{bytes_at, text};
 
 // More than the cases take.
 const MOST: usize = 64;
 
 fn show_batch(buffer: &[u8], lengths: &[u32], statuses: &mut [u8], offsets: &mut [u32]) {
     let written = bpg_batch::batch(buffer, lengths, statuses, offsets);
-    text::show_number(b"", written.status as u64);
-    text::show_number(b" at ", written.offset as u64);
-    text::show_number(b" count ", written.count as u64);
-    text::show_statuses(statuses);
-    text::show_offsets(offsets);
+    text::show_counted(written.status, written.offset, written.count);
+    text::show(b" statuses");
+    text::show_numbers(statuses);
+    text::show(b" offsets");
+    text::show_numbers(offsets);
     text::show(b"\n");
 }
 
@@ -29,25 +29,10 @@ fn show_lists(buffer: &[u8], lengths: &[u32], statuses: usize, offsets: usize) {
     );
 }
 
-// A number of four bytes.
-fn number(a: u8, b: u8, c: u8, d: u8) -> u32 {
-    ((a as u32 * 256 + b as u32) * 256 + c as u32) * 256 + d as u32
-}
-
-// The four bytes at an offset; 0 past the end.
-fn number_at(s: &[u8], at: usize) -> u32 {
-    if s.len() < 4 {
-        return 0;
-    }
-    if s.len() - 4 < at {
-        return 0;
-    }
-    number(s[at], s[at + 1], s[at + 2], s[at + 3])
-}
-
+// Lengths of four bytes; 0 past the end.
 fn read_lengths(s: &[u8], lengths: &mut [u32]) {
-    for k in 0..lengths.len() {
-        lengths[k] = number_at(s, k * 4);
+    for (k, length) in lengths.iter_mut().enumerate() {
+        *length = u32::from_be_bytes(bytes_at(s, k * 4));
     }
 }
 
@@ -77,13 +62,10 @@ fn show_case(s: &[u8], statuses: u8, offsets: u8, lengths: u8) {
     );
 }
 
-// The first bytes are the case. Any other line, such as an empty one, prints nothing.
-pub(crate) fn show(bytes: &[u8], size: usize) {
-    if size < 3 {
+// A shorter line prints nothing.
+pub(crate) fn show(case: &[u8]) {
+    if case.len() < 3 {
         return;
     }
-    if bytes.len() < size {
-        return;
-    }
-    show_case(&bytes[3..size], bytes[0], bytes[1], bytes[2]);
+    show_case(&case[3..], case[0], case[1], case[2]);
 }

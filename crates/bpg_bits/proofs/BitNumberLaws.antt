@@ -21,9 +21,8 @@ use Rattle.bpg_codec.proofs.Outcome.{error-not-ok, ok-injective, unbind, unguard
 use Rattle.bpg_codec.proofs.Lists.{either_way}
 use Rattle.bpg_codec.proofs.Tokens.{all-bits}
 use Rattle.bpg_codec.proofs.Bits.{length-bits, number-bits, number_small, bits-number, bits-append, bits-mod, bits-zero, unpack-take, length-unpack}
-use Rattle.bpg_bytes.specs.Positions.{bit_pos}
-use Rattle.bpg_bits.specs.declared.bits.BitNumber.TheVariants.{Value, Missing}
-use Rattle.bpg_bits.specs.Answers.{bit_answer}
+use Rattle.std.specs.Prelude.{Some, None}
+use Rattle.bpg_bits.specs.Answers.{bit_number, bit_answer}
 use Rattle.bpg_bits.specs.BitNumbers.{region_bits, unsigned_decode, unsigned, prefix_decode, prefix_zeros, exp_golomb_bits, exp_golomb_decode, exp_golomb}
 
 -- ---- u(n)
@@ -49,10 +48,10 @@ module _ (n : ℕ) where
 -- ---- what reading u(n) answers
 
 module _ (l : List Bool) (at n : ℕ) where
-  pub unsigned-missing : length l - at < n → Missing ≡ bit_answer (decode_at l (unsigned n) 0 at)
+  pub unsigned-missing : length l - at < n → None ≡ bit_answer (decode_at l (unsigned n) 0 at)
   unsigned-missing h = rw (lt-leb n (length (drop at l)) (rw length-drop h))
 
-  pub unsigned-found : (v : ℕ) → n ≤ length l - at → v ≡ number (take n (drop at l)) → Value v (bit_pos (at + n)) ≡ bit_answer (decode_at l (unsigned n) 0 at)
+  pub unsigned-found : (v : ℕ) → n ≤ length l - at → v ≡ number (take n (drop at l)) → Some (bit_number v (at + n)) ≡ bit_answer (decode_at l (unsigned n) 0 at)
   unsigned-found v h e = rw (le-leb n (length (drop at l)) (rw length-drop h), e)
 
 -- ---- the bits of a region
@@ -61,6 +60,10 @@ pub region-bit : (l : List ℕ) (k : ℕ) → k < length (region_bits l) → get
 region-bit l k h =
     sym (ap (λ (b : List Bool). get_or b k false) (unpack-take (2 ^ 60) l)
     ∙ get_or-take (8 * 2 ^ 60) (unpack l) k false (omega (arith, length-unpack (take (2 ^ 60) l), length-take (2 ^ 60) l)))
+
+-- they are bits of its bytes
+pub region-within : (l : List ℕ) → length (region_bits l) ≤ 8 * length l
+region-within l = omega (arith, length-unpack (take (2 ^ 60) l), length-take (2 ^ 60) l)
 
 -- ---- the prefix of ue(v), bit by bit
 

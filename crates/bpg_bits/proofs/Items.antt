@@ -12,8 +12,8 @@ use Rattle.bpg_codec.specs.Bits.{Bit, number}
 use Rattle.bpg_codec.specs.Parts.{sequence, mapped, absent, fixed}
 use Rattle.bpg_codec.proofs.Outcome.{error-not-ok}
 use Rattle.bpg_bytes.specs.declared.position.BitPos.{BitPos}
-use Rattle.bpg_bits.specs.declared.bits.BitNumber.{BitNumber}
-use Rattle.bpg_bits.specs.declared.bits.BitNumber.TheVariants.{Value}
+use Rattle.std.specs.Prelude.{Option, Some}
+use Rattle.bpg_bytes.specs.declared.position.Located.{Located}
 use Rattle.bpg_bits.specs.BitNumbers.{unsigned, prefix_decode, exp_golomb}
 use Rattle.bpg_bits.specs.Answers.{bit_outcome, bit_answer}
 
@@ -94,15 +94,10 @@ told : (i : ℕ) (m : Outcome (ℕ × ℕ)) → bit_outcome i (bit_answer m) ≡
 told i (ok x) = refl
 told i (error s o) = refl
 
--- what was read at p, for each item
-pub bit_at : {c : Codec Bool ℕ} → Itemed c → (bits : List Bool) (p : ℕ) (r x : BitNumber) → r ≡ bit_answer (decode_at bits c 0 p) → r ≡ x → (i : ℕ)
-    → decode_at bits c i p ≡ bit_outcome i x
-bit_at {c} hc bits p r x e k i = at_item-located hc bits i p ∙ sym (told i (decode_at bits c 0 p)) ∙ ap (bit_outcome i) (sym e ∙ k)
-
 -- a number that was found
-pub value-outcome : {m : Outcome (ℕ × ℕ)} (r : BitNumber) → r ≡ bit_answer m → (v : ℕ) (q : BitPos) → r ≡ Value v q → ok (v, q.0) ≡ m
-value-outcome {m} r e v q k = by m (ap (bit_outcome 0) (sym k ∙ e) ∙ told 0 m)
+pub value-outcome : {m : Outcome (ℕ × ℕ)} (r : Option (Located ℕ BitPos)) → r ≡ bit_answer m → (x : Located ℕ BitPos) → r ≡ Some x → ok (x.value, x.next.0) ≡ m
+value-outcome {m} r e x k = by m (ap (bit_outcome 0) (sym k ∙ e) ∙ told 0 m)
   where
-    by : (m : Outcome (ℕ × ℕ)) → ok (v, q.0) ≡ missing_at 0 m → ok (v, q.0) ≡ m
-    by (ok x) w = w
+    by : (m : Outcome (ℕ × ℕ)) → ok (x.value, x.next.0) ≡ missing_at 0 m → ok (x.value, x.next.0) ≡ m
+    by (ok y) w = w
     by (error s o) w = absurd (error-not-ok (sym w))

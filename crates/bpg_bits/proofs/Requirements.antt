@@ -13,10 +13,9 @@ use Rattle.bpg_codec.specs.Bits.{number, bit_at}
 use Rattle.bpg_codec.proofs.Lists.{either_way}
 use Rattle.bpg_codec.proofs.Tokens.{byte_at}
 use Rattle.bpg_codec.proofs.Bits.{get_d_bits, bits-number, length-unpack}
-use Rattle.bpg_bytes.specs.Positions.{bit_pos}
-use Rattle.bpg_bits.specs.declared.bits.BitNumber.TheVariants.{Value, Missing}
+use Rattle.std.specs.Prelude.{Some, None}
 use Rattle.bpg_bits.specs.BitNumbers.{region_bits, unsigned}
-use Rattle.bpg_bits.specs.Answers.{bit_answer, short_answer}
+use Rattle.bpg_bits.specs.Answers.{bit_number, bit_answer, short_answer}
 use Rattle.bpg_bits.specs.Requirements.{ShortField, OtherWidths, TwoBytes}
 use Rattle.bpg_bits.proofs.BitNumberLaws.{unsigned-missing, unsigned-found}
 use Rattle.bpg_bits.proofs.ShortLaws.{short-number}
@@ -29,10 +28,10 @@ module _ (region : List ℕ) (p : ℕ) where
   as-unsigned : (n w : ℕ) → min n 8 ≡ w → bit_answer (decode_at l (unsigned w) 0 p) ≡ short_answer region p n
   as-unsigned n w e = ap (λ (k : ℕ). bit_answer (decode_at l (unsigned k) 0 p)) (sym e)
 
-  found : (n : ℕ) → n ≤ 8 → n ≤ length l - p → short_answer region p n ≡ Value (number (take n (drop p l))) (bit_pos (p + n))
+  found : (n : ℕ) → n ≤ 8 → n ≤ length l - p → short_answer region p n ≡ Some (bit_number (number (take n (drop p l))) (p + n))
   found n h k = sym (unsigned-found l p n _ k refl ∙ as-unsigned n n (omega arith))
 
-  missing : (n w : ℕ) → min n 8 ≡ w → length l - p < w → short_answer region p n ≡ Missing
+  missing : (n w : ℕ) → min n 8 ≡ w → length l - p < w → short_answer region p n ≡ None
   missing n w e h = sym (unsigned-missing l p w h ∙ as-unsigned n w e)
 
   high : (n j : ℕ) → p + n ≤ length l → j < n → bit_at (number (take n (drop p l))) (n - 1 - j) ≡ get_or l (p + j) false
@@ -53,7 +52,7 @@ short-field =
 pub other-widths : OtherWidths
 other-widths =
     record {
-      none = λ r p. found r p 0 (omega arith) (omega arith) ∙ ap (λ (q : ℕ). Value 0 (bit_pos q)) (add-zero p);
+      none = λ r p. found r p 0 (omega arith) (omega arith) ∙ ap (λ (q : ℕ). Some (bit_number 0 q)) (add-zero p);
       more = λ r p n h. sym (as-unsigned r p n 8 (omega arith));
     }
 
@@ -76,7 +75,7 @@ module _ (a b : List ℕ) (p n : ℕ) (ba : All Byte a) (bb : All Byte b) (same 
   decided =
       either_way w (length (region_bits a) - p)
       (λ h. sym (unsigned-found (region_bits a) p w _ h refl)
-      ∙ ap (λ (v : ℕ). Value v (bit_pos (p + w))) (one_number h)
+      ∙ ap (λ (v : ℕ). Some (bit_number v (p + w))) (one_number h)
       ∙ unsigned-found (region_bits b) p w _ (omega (arith, as_long)) refl)
       (λ h. sym (unsigned-missing (region_bits a) p w h) ∙ unsigned-missing (region_bits b) p w (omega (arith, as_long)))
 

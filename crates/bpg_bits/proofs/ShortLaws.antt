@@ -2,10 +2,9 @@
 use mathlib.Core.Path.{◌≡◌, sym, ap, ap₂, ◌∙◌}
 use mathlib.Core.List.{List, [], ◌∷◌, ◌++◌, append_assoc}
 use Prim.Native.Nat.{ℕ, zero, suc, ◌+◌, ◌-◌, ◌*◌, ◌/◌, ◌%◌, ◌^◌, ◌≤◌, ◌<◌}
-use native.Mathlib.Nat.{mod-lt, mod-one}
+use native.Mathlib.Nat.{mod-one}
 use native.Mathlib.Omega.{arith}
 use lib.ListN.{length, take, drop, get_or, length-append, length-take, length-drop}
-use lib.Pow.{pow_pos, pow_mono}
 use lib.Seq.{take-append-le, take-take, take_at, drop_at, drop-drop, get_or-drop}
 use Rattle.bpg_codec.specs.Bits.{number, bits, unpack}
 use Rattle.bpg_codec.proofs.Lists.{take-drop}
@@ -75,7 +74,3 @@ pub short-number : (l : List ℕ) (p n : ℕ) → n ≤ 8 → n ≤ length (regi
     → (a * 256 + b) / 2 ^ (16 - p % 8 - n) % 2 ^ n ≡ number (take n (drop p (region_bits l)))
 short-number l p zero few left a b ea eb small = mod-one _
 short-number l p (suc n) few left a b ea eb small = inside-number l p (suc n) few (omega arith) a b ea eb small
-
--- it has n bits
-pub short-small : (v n : ℕ) → n ≤ 8 → v % 2 ^ n < 2 ^ 32
-short-small v n few = omega (arith, mod-lt v (pow_pos n), pow_mono {i = n} {j = 8} few)

@@ -7,38 +7,37 @@ ghost use Rattle.bpg_bits.specs.BitNumbers.{region_bits, exp_golomb, exp_golomb_
 ghost use Rattle.bpg_bits.specs.Answers.{bit_answer};
 
 use crate::bits;
-use crate::bits::BitNumber;
-use bpg_bytes::BitPos;
+use bpg_bytes::{BitPos, Located};
+
+// The most zero bits that a number begins with.
+const MOST_ZEROS: usize = 31;
 
 // The z bits after the one, and the value that they make.
-fn suffix(region: &[u8], at: BitPos, z: u32) -> BitNumber
+fn suffix(region: &[u8], at: BitPos, z: u32) -> Option<Located<u32, BitPos>>
     requires { z < 32 }
     ensures { result ≡ bit_answer (located (exp_golomb_suffix 0 z at.0 (drop at.0 (region_bits region.now)))) }
 {
-    match bits::read(region, at, z) {
-        BitNumber::Missing => BitNumber::Missing,
-        BitNumber::Value(low, next) => BitNumber::Value(((1u32 << z) - 1) + low, next),
-    }
+    let low = bits::read(region, at, z)?;
+    Some(Located {
+        value: ((1u32 << z) - 1) + low.value,
+        next: low.next,
+    })
 }
 
 // The number at `at`, bit by bit.
-pub fn read(region: &[u8], at: BitPos) -> BitNumber
+pub fn read(region: &[u8], at: BitPos) -> Option<Located<u32, BitPos>>
     ensures { result ≡ bit_answer (decode_at (region_bits region.now) exp_golomb 0 at.0) }
 {
-    let end = bits::count(region);
-    let mut z: u32 = 0;
-    let mut next = at.0;
-    while next < end {
+    for next in at.0..bits::count(region) {
+        let zeros = next - at.0;
         if bits::bit_inside(region, BitPos(next)) == 1 {
-            return suffix(region, BitPos(next + 1), z);
+            return suffix(region, BitPos(next + 1), zeros as u32);
         }
-        if z == 31 {
-            return BitNumber::Missing;
+        if zeros == MOST_ZEROS {
+            return None;
         }
-        z += 1;
-        next += 1;
     }
-    BitNumber::Missing
+    None
 }
 
 // How many bits v takes: 2z + 1, or none where it has no code.

@@ -17,45 +17,29 @@ mod heads;
 mod lists;
 mod text;
 
-use bpg_hex::HexLine;
+use bpg_cases::{ShowCase, for_each_case};
 
-// The first bytes are the case. Any other line, such as an empty one, prints nothing.
-fn show_case(bytes: &[u8], count: usize) {
-    if count == 0 || bytes.len() < count {
-        return;
-    }
-    let s = &bytes[0..count];
-    match s[0] {
-        0 => calls::show(&s[1..]),
-        1 => lists::show(&s[1..]),
-        2 => frames::show(&s[1..]),
-        3 => escaping::show(&s[1..]),
-        4 => heads::show_head(&s[1..]),
-        5 => heads::show_body(&s[1..]),
-        _ => {}
-    }
-}
+struct Program;
 
-// Takes one more character; a line that ends is a case. `bytes` holds a line.
-fn take(bytes: &mut [u8], line: HexLine, c: u8) -> HexLine {
-    if c == b'\n' {
-        show_case(bytes, line.count);
-        return bpg_hex::none();
-    }
-    bpg_hex::extend(bytes, line, c)
-}
-
-fn show_lines(s: &[u8], bytes: &mut [u8]) {
-    let mut line = bpg_hex::none();
-    for c in s {
-        line = take(bytes, line, *c);
+impl ShowCase for Program {
+    fn show(&self, s: &[u8]) {
+        if s.is_empty() {
+            return;
+        }
+        match s[0] {
+            0 => calls::show(&s[1..]),
+            1 => lists::show(&s[1..]),
+            2 => frames::show(&s[1..]),
+            3 => escaping::show(&s[1..]),
+            4 => heads::show_head(&s[1..]),
+            5 => heads::show_body(&s[1..]),
+            _ => {}
+        }
     }
 }
 
 // The input's first 65,536 bytes: more than the cases take.
 fn main() {
-    let mut input = io::large_buffer();
-    let mut bytes = io::buffer();
-    let n = io::read_full(0, &mut input);
-    show_lines(&input[..n], &mut bytes);
+    let mut space = io::buffer();
+    for_each_case(1, &mut space, &Program);
 }

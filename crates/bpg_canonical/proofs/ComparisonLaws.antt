@@ -1,7 +1,8 @@
 -- Two files compared by their canonical forms: the answer of a comparison is that of the requirement.
 use mathlib.Core.Path.{◌≡◌, refl, sym, ap, ◌∙◌, subst}
 use mathlib.Core.Bool.{Bool, true, false, and-false}
-use mathlib.Core.List.{List}
+use mathlib.Core.List.{List, [], ◌∷◌}
+use Rattle.std.specs.Cmp.Lexicographic.{pointwise}
 use mathlib.Core.Logic.{◌≢◌}
 use Prim.Native.Nat.{ℕ, ◌≤◌}
 use native.Mathlib.Omega.{arith}
@@ -24,6 +25,17 @@ first-refused w1 w2 after1 after2 n = rw (ne_eqb _ _ n)
 
 pub second-refused : (w1 w2 : Written) (after1 after2 : List ℕ) → w2.status ≢ 0 → false ≡ same_forms w1 after1 w2 after2
 second-refused w1 w2 after1 after2 n = rw (ne_eqb _ _ n) (sym (and-false (eqb w1.status 0)))
+
+-- the library's comparison of two slices
+pairs-same : (l m : List ℕ) → pointwise eqb l m ≡ same l m
+pairs-same [] [] = refl
+pairs-same [] (y ∷ m) = refl
+pairs-same (x ∷ l) [] = refl
+pairs-same (x ∷ l) (y ∷ m) = rw (pairs-same l m)
+
+pub both-same : (w1 w2 : Written) (after1 after2 : List ℕ) → w1.status ≡ 0 → w2.status ≡ 0
+    → pointwise eqb (take w1.count after1) (take w2.count after2) ≡ same_forms w1 after1 w2 after2
+both-same w1 w2 after1 after2 e1 e2 = pairs-same (take w1.count after1) (take w2.count after2) ∙ rw (e1, e2)
 
 pub both-written : (w1 w2 : Written) (after1 after2 : List ℕ) (n1 n2 : ℕ) → w1.status ≡ 0 → w2.status ≡ 0 → n1 ≡ w1.count → n2 ≡ w2.count
     → same (take n1 after1) (take n2 after2) ≡ same_forms w1 after1 w2 after2

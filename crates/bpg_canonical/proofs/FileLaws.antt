@@ -1,13 +1,11 @@
 -- What canonicalizing answers: the reader's refusals, then what writing the canonical record over the file answers.
 use mathlib.Core.Path.{◌≡◌, refl, sym, ap, ◌∙◌, subst}
 use mathlib.Core.Logic.{◌≢◌}
-use mathlib.Core.Bool.{Bool, true, false}
 use mathlib.Core.List.{List}
 use Prim.Native.Nat.{ℕ, ◌≤◌}
 use lib.Dec.{leb}
 use lib.ListN.{length}
 use borrow.Author.Tests.{le-leb}
-use Rattle.bpg_codec.specs.Select.{select}
 use Rattle.bpg_codec.specs.Outcome.{Outcome, ok, error, ◌>>=◌, guard}
 use Rattle.bpg_codec.specs.Lawful.{All, Byte}
 use Rattle.bpg_codec.proofs.Answers.{refused-error, accepted-value}
@@ -77,18 +75,24 @@ module _ (file : List ℕ) (reading : Reading) (read : reading ≡ read_file fil
       ∙ written-canonical c known.0 capacity
       ∙ rw e)
 
-  -- the answer and the buffer, of sizing or of writing
+  -- ---- the size
+
+  pub size-refused : reading.status ≢ 0 → refused_written reading.status reading.offset ≡ canonical_size file
+  unfolding canonical_size
+  size-refused n = ap written_answer (sym (refused-outcome n max_file))
+
+  pub size-answers : All Byte file → reading.status ≡ 0 → (w : Written) → w ≡ write_size (canonical_record reading.«record») file → w ≡ canonical_size file
+  unfolding canonical_size write_size
+  size-answers bytes z w e = e ∙ ap written_answer (outcome bytes z max_file)
+
+  -- ---- writing into a buffer
+
   module _ (out : List ℕ) where
-    abbrev Answers : (sizing : Bool) → Written → List ℕ → Type 0
-    Answers t w after = (w ≡ select t (canonical_size file) (canonical_file file out)) × (after ≡ select t out (canonical_buffer file out))
+    pub refused : reading.status ≢ 0 → (refused_written reading.status reading.offset ≡ canonical_file file out) × (out ≡ canonical_buffer file out)
+    unfolding canonical_file canonical_buffer
+    refused n = let e = refused-outcome n (length out) in (ap written_answer (sym e), ap (λ (o : Outcome (List ℕ)). written_buffer o out) (sym e))
 
-    pub refused : (t : Bool) → reading.status ≢ 0 → Answers t (refused_written reading.status reading.offset) out
-    unfolding select canonical_size canonical_file canonical_buffer
-    refused true n = (ap written_answer (sym (refused-outcome n max_file)), refl)
-    refused false n = let e = refused-outcome n (length out) in (ap written_answer (sym e), ap (λ (o : Outcome (List ℕ)). written_buffer o out) (sym e))
-
-    pub canonicalized : (t : Bool) → All Byte file → reading.status ≡ 0
-        → let r = canonical_record reading.«record» in Answers t (select t (write_size r file) (write_file r file out)) (select t out (write_buffer r file out))
-    unfolding select canonical_size canonical_file canonical_buffer write_size write_file write_buffer
-    canonicalized true bytes z = (ap written_answer (outcome bytes z max_file), refl)
-    canonicalized false bytes z = let e = outcome bytes z (length out) in (ap written_answer e, ap (λ (o : Outcome (List ℕ)). written_buffer o out) e)
+    pub canonicalized : All Byte file → reading.status ≡ 0 → (w : Written) (after : List ℕ) → let r = canonical_record reading.«record» in
+        w ≡ write_file r file out → after ≡ write_buffer r file out → (w ≡ canonical_file file out) × (after ≡ canonical_buffer file out)
+    unfolding canonical_file canonical_buffer write_file write_buffer
+    canonicalized bytes z w after e b = let o = outcome bytes z (length out) in (e ∙ ap written_answer o, b ∙ ap (λ (x : Outcome (List ℕ)). written_buffer x out) o)

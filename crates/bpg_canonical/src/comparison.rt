@@ -4,7 +4,6 @@ ghost use Rattle.bpg_format.specs.Pictures.{canonical_buffer};
 ghost use Rattle.bpg_canonical.specs.Comparisons.{same_forms, comparison_of, Compares};
 
 use crate::file::canonicalize;
-use bpg_bytes::compare;
 use bpg_format::Written;
 
 // What canonicalizing answers for each of two files, and whether they show the same picture: false where one is refused, or its
@@ -28,9 +27,7 @@ fn same_forms(one: Written, first: &[u8], other: Written, second: &[u8]) -> bool
     if other.status != 0 {
         return false;
     }
-    let one_count = one.count;
-    let other_count = other.count;
-    compare::equal(&first[0..one_count], &second[0..other_count])
+    first[..one.count] == second[..other.count]
 }
 
 // Canonicalizes each file into its own buffer, and compares what was written.

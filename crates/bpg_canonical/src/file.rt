@@ -1,23 +1,19 @@
 // Canonicalizing a file: read, a record with the canonical choices, written or measured over the file's own bytes.
 ghost use Rattle.std.specs.Prelude.{◌≡◌};
-ghost use Rattle.bpg_codec.specs.Select.{select};
+ghost use Rattle.bpg_format.specs.Zero.{refused_written};
 ghost use Rattle.bpg_format.specs.Pictures.{canonical_file, canonical_buffer, canonical_size};
 
-use bpg_format::{Written, written_refused};
+use bpg_format::{Reading, Written};
 
-// Writes as `canonicalize` does, or answers as `size` does and leaves `out` as it is: one body, so that the record is not handed from function to
-// function.
-fn canonicalize_or_size(file: &[u8], sizing: bool, out: &mut [u8]) -> Written
-    ensures value { result ≡ select sizing (canonical_size file.now) (canonical_file file.now out.old) }
-    ensures out_after { out.new ≡ select sizing out.old (canonical_buffer file.now out.old) }
+// The answer for a file that the reader refuses: its refusal, handed on as numbers, which is how a `Reading` has it.
+fn refused(reading: &Reading) -> Written
+    ensures { result ≡ refused_written reading.now.status reading.now.offset }
 {
-    let reading = bpg_reader::read(file);
-    if reading.status != 0 {
-        return written_refused(reading.status, reading.offset);
+    Written {
+        status: reading.status,
+        offset: reading.offset,
+        count: 0,
     }
-    let found = reading.record;
-    let canonical = bpg_canonical_record::canonical(found);
-    bpg_writer::write_or_size(canonical, file, sizing, out)
 }
 
 // Writes the canonical form of a file from the start of `out`; a refusal leaves `out` as it is.
@@ -25,13 +21,22 @@ pub fn canonicalize(file: &[u8], out: &mut [u8]) -> Written
     ensures value { result ≡ canonical_file file.now out.old }
     ensures out_after { out.new ≡ canonical_buffer file.now out.old }
 {
-    canonicalize_or_size(file, false, out)
+    let reading = bpg_reader::read(file);
+    if reading.status != 0 {
+        return refused(&reading);
+    }
+    let canonical = bpg_canonical_record::canonical(reading.record);
+    bpg_writer::write(canonical, file, out)
 }
 
 // What `canonicalize` answers to a buffer that is large enough: how large it must be, or the refusal. Never 20.
 pub fn size(file: &[u8]) -> Written
     ensures { result ≡ canonical_size file.now }
 {
-    let mut none = [0u8; 0];
-    canonicalize_or_size(file, true, &mut none)
+    let found = bpg_reader::read(file);
+    if found.status != 0 {
+        return refused(&found);
+    }
+    let canonical = bpg_canonical_record::canonical(found.record);
+    bpg_writer::size(canonical, file)
 }

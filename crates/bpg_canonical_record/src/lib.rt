@@ -1,21 +1,20 @@
 // A record with the canonical choices, over the same source.
 #![tactic(auto)]
 
-ghost use Rattle.std.specs.Prelude.{◌≡◌, min};
-ghost use Rattle.bpg_format.specs.Limits.{max_entries};
-ghost use Rattle.bpg_canonical_record.specs.Records.{loop_size, canonical_entry, canonical_header, canonical_entries, canonical_flags, canonical_record};
+ghost use Rattle.std.specs.Prelude.{◌≡◌};
+ghost use Rattle.bpg_canonical_record.specs.Records.{loop_size, canonical_entry, canonical_header, changed, canonical_flags, canonical_record};
 
-use bpg_format::{Entry, Header, MAX_ENTRIES, Range, Record};
+use bpg_format::{Entry, Header, Range, Record};
 use bpg_write_rules::absent;
 use bpg_write_ue7::ue7;
 
 // How many bytes the three numbers of tag 5 take.
-fn loop_size(record: Record) -> u32
-    ensures { result ≡ loop_size «record» }
+fn loop_size(record: &Record) -> u32
+    ensures { result ≡ loop_size «record».now }
 {
-    let count = ue7::size(record.loop_count as u64);
-    let num = ue7::size(record.frame_period_num as u64);
-    let den = ue7::size(record.frame_period_den as u64);
+    let count = ue7::size(u64::from(record.loop_count));
+    let num = ue7::size(u64::from(record.frame_period_num));
+    let den = ue7::size(u64::from(record.frame_period_den));
     (count + num + den) as u32
 }
 
@@ -27,12 +26,11 @@ fn canonical_entry(entry: Entry, size: u32) -> Entry
         return entry;
     }
     Entry {
-        tag: entry.tag,
         payload: Range {
-            start: entry.payload.start,
             length: size,
+            ..entry.payload
         },
-        tag_offset: entry.tag_offset,
+        ..entry
     }
 }
 
@@ -41,54 +39,40 @@ fn canonical_header(header: Header) -> Header
     ensures { result ≡ canonical_header header }
 {
     let range = header.sps_range_extension_flag & !absent::no_range_flag(header);
-    let mut canonical = header;
-    canonical.sps_extension_present_flag = range;
-    canonical.sps_range_extension_flag = range;
-    canonical
-}
-
-// How many entries there are to visit: the record's count, and no more than the array has.
-fn used_entries(count: u32) -> usize
-    ensures { result ≡ min max_entries count }
-{
-    if MAX_ENTRIES < count as usize {
-        return MAX_ENTRIES;
+    Header {
+        sps_extension_present_flag: range,
+        sps_range_extension_flag: range,
+        ..header
     }
-    count as usize
 }
 
 // Only the entries in use are visited: a loop over the whole array would be unrolled, and each number of each entry moved by itself.
-fn with_entries(record: Record, size: u32) -> Record
-    ensures { result ≡ canonical_entries size «record» }
+fn make_canonical(entries: &mut [Entry], count: u32, size: u32)
+    ensures { entries.new ≡ changed (canonical_entry size) count entries.old }
 {
-    let used = used_entries(record.entry_count);
-    let mut all = record;
-    let mut k: usize = 0;
-    while k < used {
-        let entry = all.entries[k];
-        all.entries[k] = canonical_entry(entry, size);
-        k += 1;
+    let used = (count as usize).min(entries.len());
+    for entry in entries[..used].iter_mut() {
+        *entry = canonical_entry(*entry, size);
     }
-    all
 }
 
 // The flags that say how a picture is written, in the record and in its headers.
-fn with_flags(record: Record) -> Record
-    ensures { result ≡ canonical_flags «record» }
+fn with_flags(record: &mut Record)
+    ensures { «record».new ≡ canonical_flags «record».old }
 {
-    let alpha = record.headers[0];
-    let color = record.headers[1];
-    let mut all = record;
-    all.extension_present_flag = record.entry_count != 0;
-    all.explicit_length = false;
-    all.headers[0] = canonical_header(alpha);
-    all.headers[1] = canonical_header(color);
-    all
+    record.extension_present_flag = record.entry_count != 0;
+    record.explicit_length = false;
+    let [alpha, color] = record.headers;
+    record.headers = [canonical_header(alpha), canonical_header(color)];
 }
 
-// The entries last: what is done after a loop over them would copy the record again.
-pub fn canonical(record: Record) -> Record
+// The record is changed in place, and not copied from step to step.
+pub fn canonical(mut record: Record) -> Record
     ensures { result ≡ canonical_record «record» }
 {
-    with_entries(with_flags(record), loop_size(record))
+    let size = loop_size(&record);
+    with_flags(&mut record);
+    let count = record.entry_count;
+    make_canonical(&mut record.entries, count, size);
+    record
 }

@@ -5,7 +5,7 @@ ghost use Rattle.bpg_sample_check.specs.Judgement.{judged};
 ghost use Rattle.bpg_sample_check.specs.Answers.{answer_of, buffer_after};
 
 use crate::plane::complement_plane;
-use bpg_sample_check::{Converted, judge_4, max_sample};
+use bpg_sample_check::{Converted, judge, max_sample};
 
 // C, M, Y and K from R, G, B and W; or a refusal, and the buffers as they were.
 pub fn cmyk(
@@ -25,23 +25,14 @@ pub fn cmyk(
     ensures yellow_after { yellow.new ≡ buffer_after result.status (map (complement (max_sample depth)) b.now) yellow.old }
     ensures black_after { black.new ≡ buffer_after result.status (map (complement (max_sample depth)) w.now) black.old }
 {
-    let lengths = [
-        g.len(),
-        b.len(),
-        w.len(),
-        cyan.len(),
-        magenta.len(),
-        yellow.len(),
-        black.len(),
-    ];
-    let answer = judge_4(r, g, b, w, &lengths, depth);
-    if answer.status != 0 {
-        return answer;
-    }
+    let count = match judge(&[r, g, b, w], &[cyan, magenta, yellow, black], depth) {
+        Ok(count) => count,
+        Err(reason) => return Converted::refused(reason),
+    };
     let m = max_sample(depth);
     complement_plane(r, m, cyan);
     complement_plane(g, m, magenta);
     complement_plane(b, m, yellow);
     complement_plane(w, m, black);
-    answer
+    Converted::of(count)
 }

@@ -7,9 +7,7 @@ pub(crate) fn complement_plane(plane: &[u16], m: u16, out: &mut [u16])
     requires { (length out.old ≡ length plane.now) × (largest plane.now ≤ m) }
     ensures { out.new ≡ map (complement m) plane.now }
 {
-    let mut i: usize = 0;
-    while i < plane.len() {
-        out[i] = m - plane[i];
-        i += 1;
+    for (i, sample) in out.iter_mut().enumerate() {
+        *sample = m - plane[i];
     }
 }

@@ -27,7 +27,7 @@ use Rattle.bpg_format.proofs.ReadingLaws.{reads, read_is}
 use Rattle.bpg_format.proofs.RecordLaws.{before_entries, file-entries, before-length, entries-length, used-entries}
 use Rattle.bpg_format.proofs.Requirements.{refusals}
 use Rattle.bpg_read_entries.proofs.Ahead.{Ahead, tags-fit, start, none_ahead, entry-ahead, past, more-ahead}
-use Rattle.bpg_parts.specs.declared.parts.EntryAt.{EntryAt}
+use Rattle.std.specs.Prelude.{Option, Some, None}
 use Rattle.bpg_parts.specs.declared.bounds.BlockBounds.{BlockBounds}
 use Rattle.bpg_parts.specs.Entries.{entry_answer}
 use Rattle.bpg_parts.specs.Bounds.{bounds_of, block_bounds}
@@ -48,9 +48,9 @@ module _ (region : List ℕ) (p : ℕ) where
 -- ---- a walk in it
 
 -- what stands at an index, if anything does
-abbrev nth : List Entry → ℕ → EntryAt
-nth [] k = EntryAt.Absent
-nth (x ∷ xs) zero = EntryAt.Found x
+abbrev nth : List Entry → ℕ → Option Entry
+nth [] k = None
+nth (x ∷ xs) zero = Some x
 nth (x ∷ xs) (suc k) = nth xs k
 
 module _ (region : Bor (List ℕ)) where
@@ -88,22 +88,22 @@ module _ (region : Bor (List ℕ)) where
 
 -- ---- a file
 
-nth-found : (xs : List Entry) (k : ℕ) → k < length xs → nth xs k ≡ EntryAt.Found (get_or xs k zero_entry)
+nth-found : (xs : List Entry) (k : ℕ) → k < length xs → nth xs k ≡ Some (get_or xs k zero_entry)
 nth-found [] k h = absurd (omega arith)
 nth-found (x ∷ xs) zero h = refl
 nth-found (x ∷ xs) (suc k) h = nth-found xs k (omega arith)
 
-nth-absent : (xs : List Entry) (k : ℕ) → length xs ≤ k → nth xs k ≡ EntryAt.Absent
+nth-absent : (xs : List Entry) (k : ℕ) → length xs ≤ k → nth xs k ≡ None
 nth-absent [] k h = refl
 nth-absent (x ∷ xs) zero h = absurd (omega arith)
 nth-absent (x ∷ xs) (suc k) h = nth-absent xs k (omega arith)
 
 module _ (f : List ℕ) (k : ℕ) where
-  answer-found : k < entry_count f → entry_answer f k ≡ EntryAt.Found (entry_of f k)
-  answer-found h = select-true (EntryAt.Found (entry_of f k)) EntryAt.Absent (lt-ltb k (entry_count f) h)
+  answer-found : k < entry_count f → entry_answer f k ≡ Some (entry_of f k)
+  answer-found h = select-true (Some (entry_of f k)) None (lt-ltb k (entry_count f) h)
 
-  answer-absent : entry_count f ≤ k → entry_answer f k ≡ EntryAt.Absent
-  answer-absent h = select-false (EntryAt.Found (entry_of f k)) EntryAt.Absent (le-ltb k (entry_count f) h)
+  answer-absent : entry_count f ≤ k → entry_answer f k ≡ None
+  answer-absent h = select-false (Some (entry_of f k)) None (le-ltb k (entry_count f) h)
 
 -- a cursor that stands before these entries, and they are the file's
 record Begun (f : List ℕ) (c : Cursor) (p : ℕ) (es : List Extension) : Type 0 where
@@ -130,7 +130,7 @@ module _ (f : List ℕ) (c : Cursor) (p : ℕ) (es : List Extension) (b : Begun 
       ∙ either_way (entry_count f) k
       (λ h. nth-absent (entries_at p es) k (omega (arith, b.count, n)) ∙ sym (answer-absent f k h))
       (λ h. nth-found (entries_at p es) k (omega (arith, b.count, n))
-      ∙ ap (λ (xs : List Entry). EntryAt.Found (get_or xs k zero_entry)) (sym b.used)
+      ∙ ap (λ (xs : List Entry). Some (get_or xs k zero_entry)) (sym b.used)
       ∙ sym (answer-found f k h))
 
 same-region : (k : ℕ) (c : Cursor) → (after k c).region ≡ c.region
@@ -200,7 +200,7 @@ module _ (file : Bor (List ℕ)) (c : Cursor) (new : New file c) where
         by (ok d) e = let s = read_is f bytes d e in begun-entry f c _ _ (accepted d s.0 s.1) k
         by (error s o) e = begun-entry f c _ _ (refused s o e) k
 
-    after_last : (k : ℕ) → entry_count f ≤ k → yielded (after k c) ≡ EntryAt.Absent
+    after_last : (k : ℕ) → entry_count f ≤ k → yielded (after k c) ≡ None
     after_last k h = entry k ∙ answer-absent f k h
 
 pub in_order : EntriesInOrder

@@ -1,2 +1,3 @@
 -- Laws of the cursor.
+pub mod StepLaws
 pub mod CursorLaws

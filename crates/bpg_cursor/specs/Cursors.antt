@@ -1,16 +1,16 @@
 -- A cursor over the entries of a file (document 01, "The pieces delivered": the walker), and that it yields the file's entries in order.
-use Rattle.std.specs.Prelude.{◌≡◌, ◌≢◌, List, ℕ, zero, suc, ◌+◌, ◌≤◌, ◌<◌, length, take, get_or}
+use Rattle.std.specs.Prelude.{◌≡◌, ◌≢◌, Option, Some, None, List, ℕ, zero, suc, ◌+◌, ◌≤◌, ◌<◌, length, take, get_or}
 use Rattle.std.specs.Borrow.{Bor}
 use Rattle.bpg_codec.specs.Outcome.{Outcome, ok, error, Decoded}
 use Rattle.bpg_codec.specs.Lawful.{All, Byte}
 use Rattle.bpg_bytes.specs.Positions.{byte_pos}
+use Rattle.bpg_format.specs.declared.record.Entry.{Entry}
 use Rattle.bpg_format.specs.Zero.{range, zero_entry}
 use Rattle.bpg_format.specs.Content.{Content}
 use Rattle.bpg_format.specs.Syntax.{block_bytes, file_of}
 use Rattle.bpg_format.specs.Rules.{Rules}
 use Rattle.bpg_format.specs.Records.{entries_at, block_start, read_file}
 use Rattle.bpg_read_entries.specs.Entries.{EntryHead, entry_in}
-use Rattle.bpg_parts.specs.declared.parts.EntryAt.{EntryAt}
 use Rattle.bpg_parts.specs.Entries.{entry_answer}
 use Rattle.bpg_parts.specs.Bounds.{block_bounds}
 use Rattle.bpg_cursor.specs.declared.cursor.Cursor.{Cursor}
@@ -22,16 +22,16 @@ use Rattle.bpg_cursor.specs.declared.step.Step.{Step}
 abbrev pub step_of : (p : ℕ) → Outcome (Decoded ℕ EntryHead) → Step
 step_of p (ok x) =
     record {
-      answer = EntryAt.Found (record { tag = x.value.tag; payload = range x.next x.value.size; tag_offset = p });
+      answer = Some (record { tag = x.value.tag; payload = range x.next x.value.size; tag_offset = p });
       next = byte_pos (x.next + x.value.size);
     }
-step_of p (error s o) = record { answer = EntryAt.Absent; next = byte_pos p }
+step_of p (error s o) = record { answer = None; next = byte_pos p }
 
 abbrev pub step_at : (region : List ℕ) (p : ℕ) → Step
 step_at region p = step_of p (entry_in region p)
 
 -- what a cursor yields
-abbrev pub yielded : Cursor → EntryAt
+abbrev pub yielded : Cursor → Option Entry
 yielded c = (step_at c.region.now c.next.0).answer
 
 -- the cursor after that: the same slice, the next offset
@@ -73,11 +73,11 @@ pub record Yields (file : Bor (List ℕ)) (start : Cursor) : Type 0 where
   pub entry : (k : ℕ) → yielded (after k start) ≡ entry_answer file.now k
   -- the k-th entry of the syntax
   pub of-syntax : (c : Content) → Rules c → file.now ≡ file_of c → (k : ℕ) → k < length c.extensions
-      → yielded (after k start) ≡ EntryAt.Found (get_or (entries_at (block_start c) c.extensions) k zero_entry)
+      → yielded (after k start) ≡ Some (get_or (entries_at (block_start c) c.extensions) k zero_entry)
   -- "after the last it says so each time"
-  pub after_last : (k : ℕ) → entry_count file.now ≤ k → yielded (after k start) ≡ EntryAt.Absent
+  pub after_last : (k : ℕ) → entry_count file.now ≤ k → yielded (after k start) ≡ None
   -- "A refused file yields none"
-  pub refused : (read_file file.now).status ≢ 0 → (k : ℕ) → yielded (after k start) ≡ EntryAt.Absent
+  pub refused : (read_file file.now).status ≢ 0 → (k : ℕ) → yielded (after k start) ≡ None
 
 -- of every cursor that `new` makes of a slice of bytes
 abbrev pub EntriesInOrder : Type 0

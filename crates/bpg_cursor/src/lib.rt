@@ -5,6 +5,6 @@ mod cursor;
 mod region;
 mod step;
 
-pub use cursor::{Cursor, first, new, next, resume};
+pub use cursor::{Cursor, first, resume};
 pub use region::region_to;
 pub use step::Step;

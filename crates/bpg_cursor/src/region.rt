@@ -2,7 +2,6 @@
 ghost use Rattle.std.specs.Prelude.{◌≡◌, take};
 
 use bpg_bytes::BytePos;
-use bpg_bytes::arithmetic::least;
 
 // The file up to an offset, as a part of the caller's slice: offsets in it are the file's own. All of the file where the offset
 // is past its end.
@@ -10,6 +9,6 @@ pub fn region_to(file: &[u8], end: BytePos) -> &[u8]
     ensures result_value { result.now ≡ take end.0 file.now }
     ensures ref_ptr_value { result.ref_ptr ≡ file.entry.ref_ptr }
 {
-    let end = least(end.0, file.len());
-    &file[0..end]
+    let end = end.0.min(file.len());
+    &file[..end]
 }

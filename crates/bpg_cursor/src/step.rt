@@ -3,13 +3,13 @@ ghost use Rattle.std.specs.Prelude.{◌≡◌};
 ghost use Rattle.bpg_cursor.specs.Cursors.{step_at};
 
 use bpg_bytes::BytePos;
-use bpg_parts::EntryAt;
+use bpg_format::Entry;
 use bpg_read_entries::entry;
 
-// What a cursor yields, and the offset at which it then stands.
+// What a cursor yields, and the offset at which it then stands, for callers that keep slice and offset themselves.
 #[derive(Clone, Copy)]
 pub struct Step {
-    pub answer: EntryAt,
+    pub answer: Option<Entry>,
     pub next: BytePos,
 }
 
@@ -17,17 +17,14 @@ pub struct Step {
 pub fn step_at(region: &[u8], at: BytePos) -> Step
     ensures { result ≡ step_at region.now at.0 }
 {
-    let read = entry::read_checked(region, at);
-    if read.status != 0 {
-        return Step {
-            answer: EntryAt::Absent,
+    match entry::read_checked(region, at) {
+        Ok(read) => Step {
+            answer: Some(read.value),
+            next: read.next,
+        },
+        Err(_) => Step {
+            answer: None,
             next: at,
-        };
-    }
-    let entry = read.entry;
-    let next = read.next;
-    Step {
-        answer: EntryAt::Found(entry),
-        next,
+        },
     }
 }

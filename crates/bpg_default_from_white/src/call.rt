@@ -6,7 +6,7 @@ ghost use Rattle.bpg_sample_check.specs.Judgement.{judged};
 ghost use Rattle.bpg_sample_check.specs.Answers.{answer_of, buffer_after};
 
 use crate::plane::white_plane;
-use bpg_sample_check::{Converted, judge_4, max_sample};
+use bpg_sample_check::{Converted, judge, max_sample};
 
 // R', G' and B' from R, G, B and W; or a refusal, and the buffers as they were.
 pub fn default_from_white(
@@ -24,21 +24,13 @@ pub fn default_from_white(
     ensures green_after { green.new ≡ buffer_after result.status (zip_with (times_white (max_sample depth)) g.now w.now) green.old }
     ensures blue_after { blue.new ≡ buffer_after result.status (zip_with (times_white (max_sample depth)) b.now w.now) blue.old }
 {
-    let lengths = [
-        g.len(),
-        b.len(),
-        w.len(),
-        red.len(),
-        green.len(),
-        blue.len(),
-    ];
-    let answer = judge_4(r, g, b, w, &lengths, depth);
-    if answer.status != 0 {
-        return answer;
-    }
+    let count = match judge(&[r, g, b, w], &[red, green, blue], depth) {
+        Ok(count) => count,
+        Err(reason) => return Converted::refused(reason),
+    };
     let m = max_sample(depth);
     white_plane(r, w, m, depth, red);
     white_plane(g, w, m, depth, green);
     white_plane(b, w, m, depth, blue);
-    answer
+    Converted::of(count)
 }

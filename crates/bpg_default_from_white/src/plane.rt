@@ -9,7 +9,7 @@ fn times_white(r: u16, w: u16, half: u32, depth: u8) -> u16
     requires { (8 ≤ depth) × (depth ≤ 14) × (r ≤ max_sample depth) × (w ≤ max_sample depth) × (half ≡ max_sample depth / 2) }
     ensures { result ≡ times_white (max_sample depth) r w }
 {
-    let x = (r as u32) * (w as u32) + half;
+    let x = u32::from(r) * u32::from(w) + half;
     ((x + (x >> depth) + 1) >> depth) as u16
 }
 
@@ -18,10 +18,8 @@ pub(crate) fn white_plane(plane: &[u16], white: &[u16], m: u16, depth: u8, out: 
     requires out_len { (length out.old ≡ length plane.now) × (length white.now ≡ length plane.now) × (largest plane.now ≤ m) × (largest white.now ≤ m) }
     ensures { out.new ≡ zip_with (times_white (max_sample depth)) plane.now white.now }
 {
-    let half = (m / 2) as u32;
-    let mut i: usize = 0;
-    while i < plane.len() {
-        out[i] = times_white(plane[i], white[i], half, depth);
-        i += 1;
+    let half = u32::from(m / 2);
+    for (i, sample) in out.iter_mut().enumerate() {
+        *sample = times_white(plane[i], white[i], half, depth);
     }
 }

@@ -1,6 +1,7 @@
 // Canonicalizes a file and prints a line: the file, then the answers and the buffers after, for a buffer of exactly the size of the
 // canonical form, one a byte smaller, and a larger one with other contents.
-use crate::{hex, text, writing};
+use crate::writing;
+use bpg_cases::text;
 
 // The size of the canonical form, by a call with more space than the cases take; a refused file's own size.
 fn canonical_size(file: &[u8]) -> usize {
@@ -39,7 +40,7 @@ fn show_buffers(file: &[u8], size: usize) {
 }
 
 pub(crate) fn show(file: &[u8]) {
-    hex::show(file);
+    text::show_hex(file);
     show_buffers(file, canonical_size(file));
     text::show(b"\n");
 }

@@ -4,7 +4,7 @@
 ghost use Rattle.std.specs.Prelude.{◌≤◌};
 ghost use Rattle.bpg_format.specs.Limits.{max_entries};
 
-use bpg_format::{Entry, Header, MAX_ENTRIES, Range, Record, zero_entry};
+use bpg_format::{Entry, Header, MAX_ENTRIES, Range, Record};
 use bpg_read_head::flags::Flags;
 use bpg_reader::CodedHead;
 
@@ -69,18 +69,13 @@ fn entry(s: &[u8], at: usize) -> Entry
 fn given(s: &[u8]) -> usize
     ensures { result ≤ max_entries }
 {
-    let count = byte(s, GIVEN) as usize;
-    if count <= MAX_ENTRIES {
-        return count;
-    }
-    MAX_ENTRIES
+    usize::from(byte(s, GIVEN)).min(MAX_ENTRIES)
 }
 
 fn entries(s: &[u8], count: usize) -> [Entry; MAX_ENTRIES]
     requires { count ≤ max_entries }
 {
-    let none = zero_entry();
-    let mut all = [none; MAX_ENTRIES];
+    let mut all = [Entry::default(); MAX_ENTRIES];
     for k in 0..count {
         all[k] = entry(s, ENTRIES + 16 * k);
     }

@@ -1,20 +1,19 @@
 // Takes a cursor over the entries of a file and prints a line: the file, and 66 answers of the cursor, two more than a file has entries.
-use crate::{hex, text};
 use bpg_bytes::BytePos;
+use bpg_cases::text;
 use bpg_format::Entry;
-use bpg_parts::EntryAt;
 
 fn show_entry(entry: Entry) {
-    text::show_number(b" ", entry.tag as u64);
-    text::show_number(b"@", entry.payload.start as u64);
-    text::show_number(b"+", entry.payload.length as u64);
-    text::show_number(b"#", entry.tag_offset as u64);
+    text::show_number(b" ", entry.tag);
+    text::show_number(b"@", entry.payload.start);
+    text::show_number(b"+", entry.payload.length);
+    text::show_number(b"#", entry.tag_offset);
 }
 
-fn show_answer(answer: EntryAt) {
+fn show_answer(answer: Option<Entry>) {
     match answer {
-        EntryAt::Found(entry) => show_entry(entry),
-        EntryAt::Absent => text::show(b" -"),
+        Some(entry) => show_entry(entry),
+        None => text::show(b" -"),
     }
 }
 
@@ -30,7 +29,7 @@ fn show_rest(region: &[u8], at: BytePos) {
 }
 
 pub(crate) fn show(file: &[u8]) {
-    hex::show(file);
+    text::show_hex(file);
     let first = bpg_cursor::first(file);
     let answer = first.answer;
     show_answer(answer);

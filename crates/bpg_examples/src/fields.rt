@@ -1,13 +1,10 @@
 // What the line leaves out of an accepted file's reading.
-use crate::text;
+use bpg_cases::text;
 use bpg_format::{Entry, Header, MAX_ENTRIES, Range, Reading, Record};
 
 // A label, and 1 or 0.
 fn show_flag(label: &[u8], flag: bool) {
-    if flag {
-        return text::show_number(label, 1);
-    }
-    text::show_number(label, 0);
+    text::show_number(label, flag);
 }
 
 // One more number of a list.

@@ -1,6 +1,6 @@
 // The head call and the body call: a line for each answer.
-use crate::{case, fields, text};
-use bpg_bytes::arithmetic::least;
+use crate::{case, fields};
+use bpg_cases::text;
 use bpg_format::Record;
 use bpg_reader::HeadReading;
 
@@ -10,23 +10,17 @@ fn show_answer(label: &[u8], status: u8, offset: usize) {
     text::show_number(b" at ", offset as u64);
 }
 
-fn show_list(list: &[u64]) {
-    for v in list {
-        text::show_number(b" ", *v);
-    }
-}
-
 fn show_reading(reading: HeadReading) {
     let head = reading.head;
     let numbers = bpg_head_call::call::head_numbers(head);
     show_answer(b"head ", reading.status, reading.offset);
-    show_list(&numbers);
+    text::show_numbers(&numbers);
     text::show(b"\n");
 }
 
 // The head of a file, and that of its first 27 bytes.
 pub(crate) fn show_head(file: &[u8]) {
-    let first = least(27, file.len());
+    let first = file.len().min(27);
     show_reading(bpg_reader::head(file));
     show_reading(bpg_reader::head(&file[0..first]));
 }

@@ -7,25 +7,18 @@
 // A buffer is filled with a5 first.
 ghost use Rattle.std.specs.Prelude.{◌≤◌};
 
-use crate::{hex, text};
-use bpg_bits::bits::BitNumber;
 use bpg_bits::{bits, exp_golomb};
-use bpg_bytes::{BitPos, BytePos};
+use bpg_bytes::{BitPos, BytePos, Located};
+use bpg_cases::text;
+use bpg_refusal::Refusal;
 use bpg_ue7::ue7;
-use bpg_ue7::ue7::Number;
 use bpg_write_bits::BitBuffer;
-
-fn wide(x: u8) -> u64
-    ensures { result ≤ 255 }
-{
-    x as u64
-}
 
 // The number that bytes make, the high byte first; of more than eight, the last eight.
 fn number(s: &[u8]) -> u64 {
     let mut v: u64 = 0;
     for byte in s {
-        v = v % 0x100_0000_0000_0000 * 256 + wide(*byte);
+        v = v % 0x100_0000_0000_0000 * 256 + u64::from(*byte);
     }
     v
 }
@@ -36,17 +29,30 @@ fn show_pair(first: &[u8], a: u64, second: &[u8], b: usize) {
     text::show_number(second, b as u64);
 }
 
-fn show_number(r: Number) {
-    match r {
-        Number::Value(v, p) => show_pair(b" value ", v as u64, b" next ", p.0),
-        Number::Refused(s, p) => show_pair(b" refused ", s as u64, b" at ", p.0),
+fn show_number(answer: Result<Located<u32>, Refusal>) {
+    match answer {
+        Ok(number) => show_pair(
+            b" value ",
+            u64::from(number.value),
+            b" next ",
+            number.next.0,
+        ),
+        Err(refusal) => {
+            let status = refusal.reason.number();
+            show_pair(b" refused ", u64::from(status), b" at ", refusal.offset.0);
+        }
     }
 }
 
-fn show_bits(r: BitNumber) {
-    match r {
-        BitNumber::Value(v, p) => show_pair(b" value ", v as u64, b" next ", p.0),
-        BitNumber::Missing => text::show(b" missing"),
+fn show_bits(answer: Option<Located<u32, BitPos>>) {
+    match answer {
+        Some(number) => show_pair(
+            b" value ",
+            u64::from(number.value),
+            b" next ",
+            number.next.0,
+        ),
+        None => text::show(b" missing"),
     }
 }
 
@@ -59,18 +65,15 @@ fn write_ue7(space: &mut [u8], size: usize, at: usize, v: u64) {
     let count = bpg_write_ue7::ue7::size(low as u64);
     show_pair(b" size ", count as u64, b" next ", end.0);
     text::show(b" ");
-    hex::show_bytes(&space[0..size]);
+    text::show_bytes(&space[0..size]);
 }
 
 fn append(n: u32, at: usize, v: u64) {
-    let b = bpg_write_bits::append(
-        BitBuffer {
-            bits: 0xa5a5_a5a5_a5a5_a5a5,
-            len: BitPos(at),
-        },
-        n,
-        v,
-    );
+    let begun = BitBuffer {
+        bits: 0xa5a5_a5a5_a5a5_a5a5,
+        len: BitPos(at),
+    };
+    let b = begun.append(n, v);
     show_pair(b" number ", b.bits, b" len ", b.len.0);
 }
 
@@ -79,11 +82,11 @@ fn append_exp_golomb(space: &mut [u8], size: usize, at: usize, v: u64) {
         return;
     }
     let low = (v % 0x1_0000_0000) as u32;
-    let b = bpg_write_bits::append_exp_golomb(bpg_write_bits::empty(), low);
-    let end = bpg_write_bits::write(&mut space[0..size], BytePos(at), b);
+    let b = BitBuffer::new().append_exp_golomb(low);
+    let end = b.write(&mut space[0..size], BytePos(at));
     show_pair(b" bits ", exp_golomb::size(low) as u64, b" next ", end.0);
     text::show(b" ");
-    hex::show_bytes(&space[0..size]);
+    text::show_bytes(&space[0..size]);
 }
 
 fn run(kind: u8, n: u8, at: u8, s: &[u8]) {
@@ -105,7 +108,7 @@ pub(crate) fn show(s: &[u8]) {
     if s.len() < 3 {
         return;
     }
-    hex::show_bytes(s);
+    text::show_bytes(s);
     run(s[0], s[1], s[2], &s[3..]);
     text::show(b"\n");
 }

@@ -1,6 +1,7 @@
 // Reads a file and prints a line: the file, the line of its reading, and, where it is accepted, the rest of its record and the
 // coded size; then the parts of the file that are handed out.
-use crate::{fields, hex, parts, text};
+use crate::{fields, parts};
+use bpg_cases::text;
 use bpg_format::Reading;
 use bpg_show_line::line;
 
@@ -30,7 +31,7 @@ fn show_reading(reading: Reading) {
 
 pub(crate) fn show(file: &[u8]) {
     let reading = bpg_reader::read(file);
-    hex::show(file);
+    text::show_hex(file);
     show_reading(reading);
     parts::show(file, reading.record.entry_count as usize);
     text::show(b"\n");

@@ -1,7 +1,8 @@
 // Writes a record and prints a line: status, offset and count, and the whole buffer after the call. It is filled with a5 before.
 ghost use Rattle.std.specs.Prelude.{◌≡◌, length as count};
 
-use crate::{case, hex, text};
+use crate::case;
+use bpg_cases::text;
 use bpg_format::{Record, Written};
 
 // More than the cases' buffers take.
@@ -22,7 +23,7 @@ pub(crate) fn show_answer(label: &[u8], answer: Written, out: &[u8]) {
     text::show_number(b" ", answer.offset as u64);
     text::show_number(b" ", answer.count as u64);
     text::show(b" ");
-    hex::show(out);
+    text::show_hex(out);
 }
 
 fn show_written(record: Record, source: &[u8], out: &mut [u8]) {

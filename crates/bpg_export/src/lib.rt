@@ -18,7 +18,7 @@ ghost use Rattle.bpg_import_list.specs.Calls.{write_answer, write_bytes};
 ghost use Rattle.bpg_export_read.specs.Calls.{read_answer, read_numbers};
 
 pub use batch::bpg_batch;
-use bpg_parts::EntryAt;
+use bpg_format::Entry;
 pub use frames::{bpg_escape, bpg_frame_count, bpg_frames, bpg_unescape};
 pub use heads::{bpg_body, bpg_head};
 pub use partition::bpg_partition;
@@ -55,22 +55,13 @@ pub extern "C" fn bpg_entry(
     ensures length_after { length.new ≡ (entry_of file.now k).payload.length }
     ensures tag_offset_after { tag_offset.new ≡ (entry_of file.now k).tag_offset }
 {
-    match bpg_parts::entry_at(file, k) {
-        EntryAt::Absent => {
-            *tag = 0;
-            *start = 0;
-            *length = 0;
-            *tag_offset = 0;
-            false
-        }
-        EntryAt::Found(entry) => {
-            *tag = entry.tag;
-            *start = entry.payload.start;
-            *length = entry.payload.length;
-            *tag_offset = entry.tag_offset;
-            true
-        }
-    }
+    let found = bpg_parts::entry_at(file, k);
+    let entry = found.unwrap_or(Entry::default());
+    *tag = entry.tag;
+    *start = entry.payload.start;
+    *length = entry.payload.length;
+    *tag_offset = entry.tag_offset;
+    found.is_some()
 }
 
 // Writes the file of a record, given as its numbers, whose ranges are in `source`, from the start of `out`: status and count.

@@ -3,6 +3,7 @@ ghost use Rattle.std.specs.Prelude.{◌≡◌, length as count};
 ghost use Rattle.bpg_codec.specs.Buffer.{written};
 ghost use Rattle.bpg_export_list.specs.Numbers.{header_numbers};
 
+use bpg_bytes::buffer;
 use bpg_format::Header;
 
 // Where the parts of a list begin; the entries begin at FIXED.
@@ -22,29 +23,11 @@ pub const FIXED: usize = COUNT + 1;
 pub fn put(out: &mut [u64], at: usize, part: &[u64])
     ensures { out.new ≡ written out.old at part.now }
 {
-    let size = part.len();
-    if out.len() < at {
-        return;
-    }
-    if out.len() - at < size {
-        return;
-    }
-    let past = at + size;
-    copy(&mut out[at..past], part);
+    buffer::put(out, at, part);
 }
 
-// Copies `from` over `to`, which is as long.
-fn copy(to: &mut [u64], from: &[u64])
-    requires { count to.old ≡ count from.now }
-    ensures { to.new ≡ from.now }
-{
-    let mut i = 0;
-    while i < from.len() {
-        to[i] = from[i];
-        i += 1;
-    }
-}
-
+// One array in the order of the list: casts and not `u64::from`, which would be 25 calls to follow in the proof, and the flags by index, since
+// arrays are not joined and a loop that fills the last nine is no plainer.
 fn header_numbers(header: Header) -> [u64; 25]
     ensures value { result ≡ header_numbers header }
     ensures header_value { count (header_numbers header) ≡ 25 }
@@ -83,6 +66,5 @@ pub fn put_header(out: &mut [u64], at: usize, header: Header)
     ensures out_after { out.new ≡ written out.old at (header_numbers header) }
     ensures header_value { count (header_numbers header) ≡ 25 }
 {
-    let part = header_numbers(header);
-    put(out, at, &part);
+    put(out, at, &header_numbers(header));
 }

@@ -6,7 +6,10 @@ use mathlib.Core.Logic.{◌≢◌}
 use Prim.Native.Nat.{ℕ}
 use native.Mathlib.Omega.{arith}
 use lib.Dec.{T, eqb}
-use lib.ListN.{length, get_or}
+use lib.ListN.{length, take}
+use lib.Pointwise.{pointwise}
+use Rattle.std.proofs.Common.{nat_eq}
+use Rattle.std.specs.List.{starts_with}
 use borrow.Author.Tests.{ne_eqb}
 use Rattle.bpg_codec.specs.Lists.{same}
 use Rattle.bpg_codec.proofs.Lists.{same-equal, same_refl}
@@ -36,28 +39,27 @@ pub data-full : (l : List ℕ) → DataRules l → T (data_allowed l)
 unfolding data_allowed
 data-full l r = search (and_both, not_same)
 
--- ---- the test, byte by byte: 0 stands for a byte that is not there
+-- ---- the test by the library's `is_empty` and `starts_with`
 
-start-codes : (p q r s t : Bool)
-    → (not (p && (q && (r && true))) && not (p && (q && (s && (t && true))))) ≡ not ((p && q) && (r || (s && t)))
-start-codes false q r s t = refl
-start-codes true false r s t = refl
-start-codes true true true s t = refl
-start-codes true true false false t = refl
-start-codes true true false true true = refl
-start-codes true true false true false = refl
+swap : (x y : ℕ) → eqb x y ≡ eqb y x
+swap x y = grind arith
 
-only : (p : Bool) → (not (p && false) && not (p && false)) ≡ not ((p && true) && false)
-only true = refl
-only false = refl
+turned : (n l : List ℕ) → pointwise nat_eq n l ≡ same l n
+turned [] [] = refl
+turned [] (y ∷ l) = refl
+turned (x ∷ n) [] = refl
+turned (x ∷ n) (y ∷ l) = rw (swap x y, turned n l) refl
 
-pub by_bytes : (l : List ℕ) → data_allowed l
-    ≡ (not (eqb (length l) 0)
-    && not ((eqb (get_or l 0 0) 0 && eqb (get_or l 1 0) 0) && (eqb (get_or l 2 0) 1 || (eqb (get_or l 2 0) 0 && eqb (get_or l 3 0) 1))))
+empty : (l : List ℕ) → nat_eq (length l) 0 ≡ same l []
+empty [] = refl
+empty (x ∷ l) = ne_eqb (length (x ∷ l)) 0 (λ e. omega arith)
+
+neither : (p q : Bool) → not (p || q) ≡ not p && not q
+neither true q = refl
+neither false q = refl
+
+pub by_tests : (l : List ℕ) → not (nat_eq (length l) 0) && not (starts_with nat_eq l (0 ∷ 0 ∷ 1 ∷ []) || starts_with nat_eq l (0 ∷ 0 ∷ 0 ∷ 1 ∷ []))
+    ≡ data_allowed l
 unfolding data_allowed
-by_bytes [] = refl
-by_bytes (a ∷ []) = only (eqb a 0)
-by_bytes (a ∷ b ∷ []) = start-codes (eqb a 0) (eqb b 0) false false false
-by_bytes (a ∷ b ∷ c ∷ []) = start-codes (eqb a 0) (eqb b 0) (eqb c 1) (eqb c 0) false
-by_bytes (a ∷ b ∷ c ∷ d ∷ l) =
-    rw (ne_eqb (length (a ∷ b ∷ c ∷ d ∷ l)) 0 (λ e. omega arith)) (start-codes (eqb a 0) (eqb b 0) (eqb c 1) (eqb c 0) (eqb d 1))
+by_tests l =
+    rw (empty l, turned (0 ∷ 0 ∷ 1 ∷ []) (take 3 l), turned (0 ∷ 0 ∷ 0 ∷ 1 ∷ []) (take 4 l), neither (same (take 3 l) (0 ∷ 0 ∷ 1 ∷ [])) (same (take 4 l) (0 ∷ 0 ∷ 0 ∷ 1 ∷ []))) refl

@@ -1,9 +1,12 @@
 // What the calls answer. Status 0 is success, else document 01's refusal number; offset is document 01's place.
 ghost use Rattle.std.specs.Prelude.{◌≡◌};
+ghost use Rattle.bpg_refusal.specs.Numbers.{reason_number};
 ghost use Rattle.bpg_format.specs.Zero.{refused_reading, refused_written};
 
-use crate::record::{Record, zero_record};
+use crate::record::Record;
+use bpg_refusal::Refusal;
 
+// The answers of calls are structs with a status and no Result: C has these fields, and clauses and theorems speak of a refusal's zeros.
 #[derive(Clone, Copy)]
 pub struct Reading {
     pub status: u8,
@@ -20,25 +23,41 @@ pub struct Written {
     pub count: usize,
 }
 
-pub fn reading_refused(status: u8, offset: usize) -> Reading
-    ensures { result ≡ refused_reading status offset }
-{
-    let record = zero_record();
-    Reading {
-        status,
-        offset,
-        coded_width: 0,
-        coded_height: 0,
-        record,
+impl Reading {
+    // What a refused file is answered: all else is zero.
+    pub fn refused(refusal: Refusal) -> Reading
+        ensures { result ≡ refused_reading (reason_number refusal.reason) refusal.offset.0 }
+    {
+        Reading {
+            status: refusal.reason.number(),
+            offset: refusal.offset.0,
+            coded_width: 0,
+            coded_height: 0,
+            record: Record::default(),
+        }
     }
 }
 
-pub fn written_refused(status: u8, offset: usize) -> Written
-    ensures { result ≡ refused_written status offset }
-{
-    Written {
-        status,
-        offset,
-        count: 0,
+impl Written {
+    // What a call that writes `count` bytes answers. (Frames and Converted have their own: a trait would take an impl for each.)
+    pub fn of(count: usize) -> Written
+        ensures { result ≡ record { status = 0; offset = 0; count = count } }
+    {
+        Written {
+            status: 0,
+            offset: 0,
+            count,
+        }
+    }
+
+    // What a call that refuses answers: nothing is written.
+    pub fn refused(refusal: Refusal) -> Written
+        ensures { result ≡ refused_written (reason_number refusal.reason) refusal.offset.0 }
+    {
+        Written {
+            status: refusal.reason.number(),
+            offset: refusal.offset.0,
+            count: 0,
+        }
     }
 }

@@ -6,9 +6,8 @@ mod answer;
 mod data;
 mod record;
 
-pub use answer::{Reading, Written, reading_refused, written_refused};
+pub use answer::{Reading, Written};
 pub use data::data_allowed;
 pub use record::{
     Entry, Header, MAX_ENTRIES, MAX_FILE, Range, Record, color_space_allowed, has_alpha,
-    zero_entry, zero_header, zero_record,
 };

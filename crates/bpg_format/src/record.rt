@@ -8,14 +8,14 @@ pub const MAX_ENTRIES: usize = 64;
 pub const MAX_FILE: usize = 16_777_216;
 
 // Bytes of the file, or of the source that a record is written from.
-#[derive(Clone, Copy)]
+#[derive(Clone, Copy, Default, PartialEq, Eq)]
 pub struct Range {
     pub start: u32,
     pub length: u32,
 }
 
 // An entry of the extension block: its tag, where its payload lies, and where its tag begins. The writer pays no heed to the last.
-#[derive(Clone, Copy)]
+#[derive(Clone, Copy, PartialEq, Eq)]
 pub struct Entry {
     pub tag: u32,
     pub payload: Range,
@@ -23,7 +23,7 @@ pub struct Entry {
 }
 
 // A HEVC header. Fields that a flag leaves out are zero.
-#[derive(Clone, Copy)]
+#[derive(Clone, Copy, PartialEq, Eq)]
 pub struct Header {
     pub log2_min_luma_coding_block_size_minus3: u32,
     pub log2_diff_max_min_luma_coding_block_size: u32,
@@ -46,7 +46,7 @@ pub struct Header {
     pub range_flags: [bool; 9],
 }
 
-#[derive(Clone, Copy)]
+#[derive(Clone, Copy, PartialEq, Eq)]
 pub struct Record {
     pub pixel_format: u8,
     pub alpha1_flag: bool,
@@ -84,69 +84,71 @@ pub fn color_space_allowed(pixel_format: u8, color_space: u8) -> bool
     (color_space <= 4) & ((pixel_format != 0) | (color_space == 0))
 }
 
-pub fn zero_entry() -> Entry
-    ensures { result ≡ zero_entry }
-{
-    Entry {
-        tag: 0,
-        payload: Range {
-            start: 0,
-            length: 0,
-        },
-        tag_offset: 0,
+// The zero values. Their impls are by hand: what a derive promises of a field that is an array or a struct is not said as an equation.
+impl Default for Entry {
+    ghost is_default = { λ e. e ≡ zero_entry };
+
+    fn default() -> Entry {
+        Entry {
+            tag: 0,
+            payload: Range {
+                start: 0,
+                length: 0,
+            },
+            tag_offset: 0,
+        }
     }
 }
 
-pub fn zero_header() -> Header
-    ensures { result ≡ zero_header }
-{
-    Header {
-        log2_min_luma_coding_block_size_minus3: 0,
-        log2_diff_max_min_luma_coding_block_size: 0,
-        log2_min_transform_block_size_minus2: 0,
-        log2_diff_max_min_transform_block_size: 0,
-        max_transform_hierarchy_depth_intra: 0,
-        sample_adaptive_offset_enabled_flag: false,
-        pcm_enabled_flag: false,
-        pcm_sample_bit_depth_luma_minus1: 0,
-        pcm_sample_bit_depth_chroma_minus1: 0,
-        log2_min_pcm_luma_coding_block_size_minus3: 0,
-        log2_diff_max_min_pcm_luma_coding_block_size: 0,
-        pcm_loop_filter_disabled_flag: false,
-        strong_intra_smoothing_enabled_flag: false,
-        sps_extension_present_flag: false,
-        sps_range_extension_flag: false,
-        sps_extension_7bits: 0,
-        range_flags: [false; 9],
+impl Default for Header {
+    ghost is_default = { λ h. h ≡ zero_header };
+
+    fn default() -> Header {
+        Header {
+            log2_min_luma_coding_block_size_minus3: 0,
+            log2_diff_max_min_luma_coding_block_size: 0,
+            log2_min_transform_block_size_minus2: 0,
+            log2_diff_max_min_transform_block_size: 0,
+            max_transform_hierarchy_depth_intra: 0,
+            sample_adaptive_offset_enabled_flag: false,
+            pcm_enabled_flag: false,
+            pcm_sample_bit_depth_luma_minus1: 0,
+            pcm_sample_bit_depth_chroma_minus1: 0,
+            log2_min_pcm_luma_coding_block_size_minus3: 0,
+            log2_diff_max_min_pcm_luma_coding_block_size: 0,
+            pcm_loop_filter_disabled_flag: false,
+            strong_intra_smoothing_enabled_flag: false,
+            sps_extension_present_flag: false,
+            sps_range_extension_flag: false,
+            sps_extension_7bits: 0,
+            range_flags: [false; 9],
+        }
     }
 }
 
-pub fn zero_record() -> Record
-    ensures { result ≡ zero_record }
-{
-    let header = zero_header();
-    let entry = zero_entry();
-    Record {
-        pixel_format: 0,
-        alpha1_flag: false,
-        bit_depth_minus_8: 0,
-        color_space: 0,
-        extension_present_flag: false,
-        alpha2_flag: false,
-        limited_range_flag: false,
-        animation_flag: false,
-        picture_width: 0,
-        picture_height: 0,
-        explicit_length: false,
-        entry_count: 0,
-        entries: [entry; MAX_ENTRIES],
-        loop_count: 0,
-        frame_period_num: 0,
-        frame_period_den: 0,
-        headers: [header; 2],
-        data: Range {
-            start: 0,
-            length: 0,
-        },
+impl Default for Record {
+    ghost is_default = { λ r. r ≡ zero_record };
+
+    fn default() -> Record {
+        Record {
+            pixel_format: 0,
+            alpha1_flag: false,
+            bit_depth_minus_8: 0,
+            color_space: 0,
+            extension_present_flag: false,
+            alpha2_flag: false,
+            limited_range_flag: false,
+            animation_flag: false,
+            picture_width: 0,
+            picture_height: 0,
+            explicit_length: false,
+            entry_count: 0,
+            entries: [Entry::default(); MAX_ENTRIES],
+            loop_count: 0,
+            frame_period_num: 0,
+            frame_period_den: 0,
+            headers: [Header::default(); 2],
+            data: Range::default(),
+        }
     }
 }

@@ -1,19 +1,17 @@
 // The frames of a file: the answer of `frames` and the list after it, which was filled with 9999, then the answer of `frame_count`.
-use crate::text;
+use bpg_cases::text;
 
 // More than the cases take.
 const MOST: usize = 64;
 
 fn show_list(list: &[u16]) {
     text::show(b" list");
-    for v in list {
-        text::show_next(*v as u64);
-    }
+    text::show_numbers(list);
 }
 
 fn show_frames(file: &[u8], list: &mut [u16]) {
     let frames = bpg_frames::frames(file, list);
-    text::show_answer(frames.status, frames.offset, frames.count);
+    text::show_counted(frames.status, frames.offset, frames.count);
     show_list(list);
 }
 
@@ -25,6 +23,6 @@ pub(crate) fn show(file: &[u8], size: usize) {
     show_frames(file, &mut list[0..size]);
     text::show(b" | ");
     let counted = bpg_frames::frame_count(file);
-    text::show_answer(counted.status, counted.offset, counted.count);
+    text::show_counted(counted.status, counted.offset, counted.count);
     text::show(b"\n");
 }

@@ -1,6 +1,9 @@
 -- The frames, unit by unit: one equation for each case, and a turn of either pass.
 use mathlib.Core.Path.{◌≡◌, refl, sym, ap, ◌∙◌}
-use mathlib.Core.Bool.{Bool, true, false}
+use mathlib.Core.Bool.{Bool, true, false, not, ◌&&◌, ◌||◌, false≢true}
+use Rattle.std.proofs.Common.{Option, Some, None}
+use Rattle.std.specs.Option.{is_some}
+use Rattle.std.specs.Int.{from_bool}
 use mathlib.Core.List.{List, [], ◌∷◌, ◌++◌}
 use Prim.Native.Nat.{ℕ, ◌+◌, ◌-◌, ◌≤◌, ◌<◌}
 use native.Mathlib.Omega.{arith}
@@ -10,19 +13,19 @@ use borrow.Author.Tests.{eq-eqb, ne_eqb}
 use Rattle.bpg_codec.specs.Select.{select}
 use Rattle.bpg_codec.specs.Outcome.{Outcome, ok, error, ◌>>=◌}
 use Rattle.bpg_codec.proofs.Lists.{either_way}
-use Rattle.bpg_codec.proofs.Outcome.{unbind}
+use Rattle.bpg_codec.proofs.Outcome.{unbind, error-not-ok, ok-injective}
 use Rattle.bpg_codec.proofs.Select.{select-true, select-false}
 use Rattle.bpg_nal_units.specs.declared.cut.Cut.{Cut}
 use Rattle.bpg_nal_units.specs.Units.{Nal, units, code_from, bytes_at, cut_at}
-use Rattle.bpg_nal_units.proofs.Cases.{by-test}
+use Rattle.bpg_nal_units.proofs.Cases.{by-test, by_equal, and-false}
 use Rattle.bpg_nal_units.proofs.UnitLaws.{unit_at, last-at, room_at, more-at, end-at, part_at}
 use Rattle.bpg_sei.specs.Steps.{last_of}
 use Rattle.bpg_frame_units.specs.declared.kind.Verdict.{Verdict}
 use Rattle.bpg_frame_units.specs.declared.wait.Waiting.{Waiting}
 use Rattle.bpg_frame_units.specs.Units.{Said}
-use Rattle.bpg_frame_units.specs.Frames.{judged, refused_at, nothing, set_by, wait_after, lasting, timed, frames_from}
-use Rattle.bpg_frame_units.specs.Answers.{verdict_of, wait_by}
-use Rattle.bpg_frame_units.proofs.Refusals.{judged-refuses}
+use Rattle.bpg_frame_units.specs.Frames.{settles, judged, refused_at, nothing, set_by, wait_after, lasting, timed, frames_from}
+use Rattle.bpg_frame_units.specs.Answers.{verdict, verdict_of, waits, wait_by}
+use Rattle.bpg_frame_units.proofs.UnitLaws.{settles-by, judged-settles}
 
 -- ---- what goes over from a unit to the next, as the code has it
 
@@ -35,25 +38,62 @@ set_last : (w : Waiting) (p : ℕ) (ds : List ℕ) → set_by w p ds ≡ select 
 set_last w p [] = sym (select-true _ _ refl)
 set_last w p (d ∷ ds) = set-some ds w p d ∙ sym (select-false _ _ (ne_eqb (length (d ∷ ds)) 0 (λ z. omega arith)))
 
-wait_by-verdict : (w : Waiting) (p : ℕ) (x : Said) → wait_after w p x ≡ wait_by w (verdict_of (ok x)) p
+waits-select : (b : Bool) (v w : Option Waiting) → select b (waits v) (waits w) ≡ waits (select b v w)
+waits-select b v w = by-test b (λ e. rw (select-true _ _ e, select-true _ _ e)) (λ e. rw (select-false _ _ e, select-false _ _ e))
+
+wait_by-verdict : (w : Option Waiting) (p : ℕ) (x : Said) → wait_after (waits w) p x ≡ waits (wait_by w (verdict x) p)
 unfolding wait_after
-wait_by-verdict w p x = ap (λ (y : Waiting). select x.starts nothing y) (set_last w p x.durations)
+wait_by-verdict w p x =
+    ap (λ (y : Waiting). select x.starts nothing y)
+    (set_last (waits w) p x.durations
+    ∙ waits-select (eqb (length x.durations) 0) w (Some (record { duration = last_of x.durations; unit = record { 0 = p } })))
+    ∙ waits-select x.starts None _
 
 abbrev pub timed_by : Waiting → Verdict → List ℕ → List ℕ
 timed_by w v ds = select v.starts (ds ++ (lasting w.duration ∷ [])) ds
 
-timed-by : (w : Waiting) (x : Said) (ds : List ℕ) → timed w x ds ≡ timed_by w (verdict_of (ok x)) ds
+timed-by : (w : Waiting) (x : Said) (ds : List ℕ) → timed w x ds ≡ timed_by w (verdict x) ds
 unfolding timed
 timed-by w x ds = refl
 
-pub timed-length : (w : Waiting) (v : Verdict) (ds : List ℕ) (n m : ℕ) → length ds ≡ n → m ≡ select v.starts (n + 1) n → length (timed_by w v ds) ≡ m
+-- what waits is not 0
+abbrev pub IsSet : Option Waiting → Type 0
+IsSet None = Unit {0}
+IsSet (Some w) = w.duration ≡ 0 → ⊥
+
+pub set-waits : (w : Option Waiting) → IsSet w → is_some w ≡ not (eqb (waits w).duration 0)
+set-waits None s = refl
+set-waits (Some w) s = rw (ne_eqb w.duration 0 s)
+
+last-set : (n l : ℕ) (b : Bool) → (eqb n 0 || (eqb n 1 && (not (eqb l 0) && not b))) ≡ true → (n ≡ 0 → ⊥) → l ≡ 0 → ⊥
+last-set n l b e h g = false≢true (sym (and-false (eqb n 1) false refl) ∙ (rw (g, ne_eqb n 0 h) at e))
+
+-- it stays so after a unit that was judged
+pub set-after : (alpha : Bool) (w : Option Waiting) (u : List ℕ) (p : ℕ) (v : Verdict) → IsSet w
+    → ok v ≡ verdict_of (judged alpha (waits w).duration u) → IsSet (wait_by w v p)
+set-after alpha w u p v s e = by (judged alpha (waits w).duration u) refl e
+  where
+    waiting : (x : Said) → settles (waits w).duration x.durations ≡ true → IsSet (wait_by w (verdict x) p)
+    waiting x t =
+        by-test x.starts (λ b. rw (select-true _ _ b) tt) λ b.
+        rw (select-false _ _ b)
+        (by_equal (length x.durations) 0
+        (λ z. rw (select-true _ _ (eq-eqb _ 0 z)) s)
+        (λ n. rw (select-false _ _ (ne_eqb _ 0 n)) (last-set _ _ _ (settles-by (waits w).duration (is_some w) x.durations (set-waits w s) ∙ t) n)))
+
+    by : (o : Outcome Said) → judged alpha (waits w).duration u ≡ o → ok v ≡ verdict_of o → IsSet (wait_by w v p)
+    by (ok x) g f = rw (ok-injective f) (waiting x (judged-settles alpha (waits w).duration u x g))
+    by (error t o) g f = absurd (error-not-ok (sym f))
+
+pub timed-length : (w : Waiting) (v : Verdict) (ds : List ℕ) (n m : ℕ) → length ds ≡ n → m ≡ n + from_bool v.starts → length (timed_by w v ds) ≡ m
 timed-length w v ds n m e f =
     by-test v.starts
-    (λ b. ap length (select-true _ _ b) ∙ length-append ds (lasting w.duration ∷ []) ∙ rw e (sym (f ∙ select-true (n + 1) n b)))
-    (λ b. ap length (select-false _ _ b) ∙ e ∙ sym (f ∙ select-false (n + 1) n b))
+    (λ b. ap length (select-true _ _ b) ∙ length-append ds (lasting w.duration ∷ []) ∙ rw (e, f, b))
+    (λ b. ap length (select-false _ _ b) ∙ e ∙ rw (f, b) (omega arith))
 
-pub one-most : (b : Bool) (n m : ℕ) → m ≡ select b (n + 1) n → m ≤ n + 1
-one-most b n m e = by-test b (λ h. let f = e ∙ select-true (n + 1) n h in omega arith) (λ h. let f = e ∙ select-false (n + 1) n h in omega arith)
+pub one-most : (b : Bool) (n m : ℕ) → m ≡ n + from_bool b → m ≤ n + 1
+one-most true n m e = omega arith
+one-most false n m e = omega arith
 
 -- ---- the end
 
@@ -79,20 +119,12 @@ module _ (alpha : Bool) (w : Waiting) (ds : List ℕ) (u : Nal) (us : List Nal) 
   unfolding frames_from
   rest-is = refl
 
-  module _ (v : Verdict) (e : v ≡ verdict_of says) where
-    pub frames-refused : (v.status ≡ 0 → ⊥) → frames_from alpha (u ∷ us) w ds ≡ error v.status u.start
-    frames-refused n = rest-is ∙ by says e
-      where
-        by : (o : Outcome Said) → v ≡ verdict_of o → rest o ≡ error v.status u.start
-        by (ok x) f = absurd (n (ap (λ (y : Verdict). y.status) f))
-        by (error s o) f = ap (λ (y : Verdict). error y.status u.start) (sym f)
-
-    pub frames-on : v.status ≡ 0 → frames_from alpha (u ∷ us) w ds ≡ frames_from alpha us (wait_by w v u.start) (timed_by w v ds)
-    frames-on z = rest-is ∙ by says refl e
-      where
-        by : (o : Outcome Said) → says ≡ o → v ≡ verdict_of o → rest o ≡ frames_from alpha us (wait_by w v u.start) (timed_by w v ds)
-        by (ok x) g f = rw (f, wait_by-verdict w u.start x, timed-by w x ds)
-        by (error s o) g f = absurd (let k = (judged-refuses alpha w.duration u.bytes s o g).0 in let q = ap (λ (y : Verdict). y.status) f in omega arith)
+  pub frames-refused : (s : ℕ) → error s 0 ≡ verdict_of says → frames_from alpha (u ∷ us) w ds ≡ error s u.start
+  frames-refused s e = rest-is ∙ by says e
+    where
+      by : (o : Outcome Said) → error s 0 ≡ verdict_of o → rest o ≡ error s u.start
+      by (ok x) f = absurd (error-not-ok f)
+      by (error t o) f = let k : t ≡ s = cc in rw k
 
   -- where all is well, the unit was judged
   pub frames-judged : (all : List ℕ) → frames_from alpha (u ∷ us) w ds ≡ ok all → (x : Said) × (says ≡ ok x)
@@ -101,6 +133,16 @@ module _ (alpha : Bool) (w : Waiting) (ds : List ℕ) (u : Nal) (us : List Nal) 
       at_ok : (o : Outcome Said) (x : Said) → refused_at u.start o ≡ ok x → o ≡ ok x
       at_ok (ok y) x g = g
       at_ok (error s o) x g = absurd (let z : ◌≡◌ {A = ℕ} 0 1 = cc in omega arith)
+
+pub frames-on : (alpha : Bool) (w : Option Waiting) (ds : List ℕ) (u : Nal) (us : List Nal) (v : Verdict)
+    → ok v ≡ verdict_of (judged alpha (waits w).duration u.bytes)
+    → frames_from alpha (u ∷ us) (waits w) ds ≡ frames_from alpha us (waits (wait_by w v u.start)) (timed_by (waits w) v ds)
+frames-on alpha w ds u us v e = rest-is alpha (waits w) ds u us ∙ by (judged alpha (waits w).duration u.bytes) e
+  where
+    by : (o : Outcome Said) → ok v ≡ verdict_of o
+        → rest alpha (waits w) ds u us o ≡ frames_from alpha us (waits (wait_by w v u.start)) (timed_by (waits w) v ds)
+    by (ok x) f = rw (ok-injective f, wait_by-verdict w u.start x, timed-by (waits w) x ds)
+    by (error s o) f = absurd (error-not-ok (sym f))
 
 pub frames-stop : (alpha : Bool) (w : Waiting) (ds : List ℕ) (u : Nal) (us : List Nal) (s o : ℕ) → judged alpha w.duration u.bytes ≡ error s o
     → frames_from alpha (u ∷ us) w ds ≡ error s u.start
@@ -134,18 +176,18 @@ module _ (f : List ℕ) (start : ℕ) (h : start ≤ length f) (cut : Cut) (e : 
   pub turn-first : (us : List Nal) × (units start (drop start f) ≡ unit_at f start ∷ us)
   turn-first = either_way (length f) cut.code.0 (λ k. ([], turn_last k)) (λ k. (units (cut.code.0 + 3) (drop (cut.code.0 + 3) f), turn_more k))
 
-  module _ (alpha : Bool) (w : Waiting) (ds : List ℕ) (v : Verdict) (all : Outcome (List ℕ))
-      (inv : all ≡ frames_from alpha (units start (drop start f)) w ds) (j : v ≡ verdict_of (judged alpha w.duration (bytes_at f start))) where
-    pub all-refused : (v.status ≡ 0 → ⊥) → all ≡ error v.status start
-    all-refused n = let t = turn-first in inv ∙ rw t.1 (frames-refused alpha w ds (unit_at f start) t.0 v j n)
+  module _ (alpha : Bool) (w : Option Waiting) (ds : List ℕ) (all : Outcome (List ℕ))
+      (inv : all ≡ frames_from alpha (units start (drop start f)) (waits w) ds) where
+    pub all-refused : (s : ℕ) → error s 0 ≡ verdict_of (judged alpha (waits w).duration (bytes_at f start)) → all ≡ error s start
+    all-refused s j = let t = turn-first in inv ∙ rw t.1 (frames-refused alpha (waits w) ds (unit_at f start) t.0 s j)
 
-    module _ (z : v.status ≡ 0) where
-      pub all-last : length f ≤ cut.code.0 → all ≡ frames_from alpha [] (wait_by w v start) (timed_by w v ds)
-      all-last k = inv ∙ rw (turn_last k) (frames-on alpha w ds (unit_at f start) [] v j z)
+    module _ (v : Verdict) (j : ok v ≡ verdict_of (judged alpha (waits w).duration (bytes_at f start))) where
+      pub all-last : length f ≤ cut.code.0 → all ≡ frames_from alpha [] (waits (wait_by w v start)) (timed_by (waits w) v ds)
+      all-last k = inv ∙ rw (turn_last k) (frames-on alpha w ds (unit_at f start) [] v j)
 
       pub all_more : cut.code.0 < length f
-          → all ≡ frames_from alpha (units (cut.code.0 + 3) (drop (cut.code.0 + 3) f)) (wait_by w v start) (timed_by w v ds)
-      all_more k = inv ∙ rw (turn_more k) (frames-on alpha w ds (unit_at f start) _ v j z)
+          → all ≡ frames_from alpha (units (cut.code.0 + 3) (drop (cut.code.0 + 3) f)) (waits (wait_by w v start)) (timed_by (waits w) v ds)
+      all_more k = inv ∙ rw (turn_more k) (frames-on alpha w ds (unit_at f start) _ v j)
 
 -- ---- a unit of frames that are all well
 

@@ -13,28 +13,32 @@ use Rattle.bpg_codec.proofs.Outcome.{ok-injective, error-not-ok, unbind, unguard
 use Rattle.bpg_codec.proofs.Select.{select-true, select-false, is_true, is_false}
 use Rattle.bpg_nal_units.specs.declared.nal_header.NalHeader.{NalHeader}
 use Rattle.bpg_nal_units.specs.Headers.{header_of}
-use Rattle.bpg_nal_units.proofs.Cases.{by_equal, one_answer, and-false}
+use Rattle.bpg_nal_units.proofs.Cases.{by_equal, and-false}
 use Rattle.bpg_nal_emulation.specs.Emulation.{zeros_after, unescape, keeps_rules, content_at}
 use Rattle.bpg_nal_emulation.proofs.WalkLaws.{zeros-byte, zeros-first, mark-no-zeros, un-byte}
-use Rattle.bpg_sei.specs.declared.messages.Sei.{Sei}
+use Rattle.bpg_sei.specs.declared.messages.Durations.{Durations}
 use Rattle.bpg_sei.specs.Messages.{durations_in}
-use Rattle.bpg_sei.specs.Steps.{last_of, sei_answer}
+use Rattle.bpg_sei.specs.Steps.{last_of, summary, summed_up}
 use Rattle.bpg_frame_units.specs.declared.kind.Verdict.{Verdict}
 use Rattle.bpg_frame_units.specs.Units.{Said, is_slice, is_prefix_sei, allowed_unit, slice_says, sei_says, other_says, kind_says, unit_says}
 use Rattle.bpg_frame_units.specs.Frames.{settles, judged}
-use Rattle.bpg_frame_units.specs.Answers.{refused_by, verdict_of, settles_by}
+use Rattle.bpg_frame_units.specs.Answers.{verdict_of, settles_by}
 
 -- ---- a slice
 
 module _ (u : List ℕ) where
-  pub slice-short : length u < 3 → refused_by 22 ≡ verdict_of (slice_says u)
+  pub slice-short : length u < 3 → error 22 0 ≡ verdict_of (slice_says u)
   unfolding slice_says
   slice-short h = rw (lt-leb 3 (length u) h)
 
-  pub slice-says : 3 ≤ length u → (b : Bool) → b ≡ leb 128 (get_or u 2 0)
-      → ◌≡◌ {A = Verdict} (record { status = 0; starts = b; count = 0; duration = 0 }) (verdict_of (slice_says u))
-  unfolding slice_says last_of
-  slice-says h b e = rw (le-leb 3 (length u) h, e)
+  pub slice-says : 3 ≤ length u → (v : Verdict) → v.starts ≡ leb 128 (get_or u 2 0) → v.durations ≡ summary [] → ok v ≡ verdict_of (slice_says u)
+  unfolding slice_says
+  slice-says h v e f = rw (le-leb 3 (length u) h, ← e, ← f)
+
+-- no durations
+pub summary-none : (d : Durations) → d.count ≡ 0 → d.last ≡ 0 → d ≡ summary []
+unfolding last_of
+summary-none d e f = ap (λ n. record { count = n; last = d.last }) e ∙ ap (λ n. record { count = 0; last = n }) f
 
 -- ---- a prefix SEI
 
@@ -56,16 +60,15 @@ behind-header [] h = absurd (h refl)
 behind-header (a ∷ []) h = absurd (h refl)
 behind-header (a ∷ b ∷ l) h = behind-bytes a b l h
 
-pub sei-says : (u : List ℕ) → (get_or u 1 0 ≡ 0 → ⊥) → (s : Sei) → s ≡ sei_answer (durations_in (content_at u 2 0))
-    → ◌≡◌ {A = Verdict} (record { status = s.status; starts = false; count = s.count; duration = s.duration }) (verdict_of (sei_says u))
+pub sei-says : (u : List ℕ) → (get_or u 1 0 ≡ 0 → ⊥) → (o : Outcome Durations) → o ≡ summed_up (durations_in (content_at u 2 0))
+    → (o >>= λ d. ok (record { starts = false; durations = d })) ≡ verdict_of (sei_says u)
 unfolding sei_says
-sei-says u h s e = rw (behind-header u h) (by (durations_in (content_at u 2 0)) e)
+sei-says u h o e = rw (behind-header u h, e) (by (durations_in (content_at u 2 0)))
   where
-    by : (o : Outcome (List ℕ)) → s ≡ sei_answer o
-        → ◌≡◌ {A = Verdict} (record { status = s.status; starts = false; count = s.count; duration = s.duration })
-        (verdict_of (o >>= λ ds. ok (record { starts = false; durations = ds })))
-    by (ok ds) f = rw f
-    by (error t o) f = rw f
+    by : (r : Outcome (List ℕ))
+        → (summed_up r >>= λ d. ok (record { starts = false; durations = d })) ≡ verdict_of (r >>= λ ds. ok (record { starts = false; durations = ds }))
+    by (ok ds) = refl
+    by (error t p) = refl
 
 -- ---- by its kind
 
@@ -84,11 +87,12 @@ module _ (alpha : Bool) (u : List ℕ) (h : NalHeader) where
       unfolding kind_says
       kind-other = select-false _ _ n ∙ select-false _ _ m
 
-      pub other-passes : allowed_unit alpha h ≡ true → refused_by 0 ≡ verdict_of (kind_says alpha u h)
-      unfolding other_says last_of
-      other-passes e = rw (kind-other, e)
+      pub other-passes : allowed_unit alpha h ≡ true → (v : Verdict) → v.starts ≡ false → v.durations ≡ summary []
+          → ok v ≡ verdict_of (kind_says alpha u h)
+      unfolding other_says
+      other-passes e v f g = rw (kind-other, e, ← f, ← g)
 
-      pub other-refused : allowed_unit alpha h ≡ false → refused_by 23 ≡ verdict_of (kind_says alpha u h)
+      pub other-refused : allowed_unit alpha h ≡ false → error 23 0 ≡ verdict_of (kind_says alpha u h)
       unfolding other_says
       other-refused e = rw (kind-other, e)
 
@@ -99,29 +103,29 @@ module _ (alpha : Bool) (u : List ℕ) where
   head = header_of (get_or u 0 0) (get_or u 1 0)
 
   -- whatever its header is
-  pub unit-broken : keeps_rules u ≡ false → refused_by 22 ≡ verdict_of (unit_says alpha u)
+  pub unit-broken : keeps_rules u ≡ false → error 22 0 ≡ verdict_of (unit_says alpha u)
   unfolding unit_says
   unit-broken e = rw e (by (leb 2 (length u)) (not head.forbidden_zero_bit) (not (eqb head.nuh_temporal_id_plus1 0)))
     where
       by : (a b c : Bool)
-          → refused_by 22
+          → error 22 0
           ≡ verdict_of (guard a 22 0 >>= λ _. guard b 22 0 >>= λ _. guard c 22 0 >>= λ _. guard false 22 0 >>= λ _. kind_says alpha u head)
       by false b c = refl
       by true false c = refl
       by true true false = refl
       by true true true = refl
 
-  pub unit-short : length u < 2 → refused_by 22 ≡ verdict_of (unit_says alpha u)
+  pub unit-short : length u < 2 → error 22 0 ≡ verdict_of (unit_says alpha u)
   unfolding unit_says
   unit-short h = rw (lt-leb 2 (length u) h)
 
   module _ (h : 2 ≤ length u) where
-    pub unit-forbidden : head.forbidden_zero_bit ≡ true → refused_by 22 ≡ verdict_of (unit_says alpha u)
+    pub unit-forbidden : head.forbidden_zero_bit ≡ true → error 22 0 ≡ verdict_of (unit_says alpha u)
     unfolding unit_says
     unit-forbidden e = rw (le-leb 2 (length u) h, e)
 
     module _ (f : head.forbidden_zero_bit ≡ false) where
-      pub unit-temporal : head.nuh_temporal_id_plus1 ≡ 0 → refused_by 22 ≡ verdict_of (unit_says alpha u)
+      pub unit-temporal : head.nuh_temporal_id_plus1 ≡ 0 → error 22 0 ≡ verdict_of (unit_says alpha u)
       unfolding unit_says
       unit-temporal e = rw (le-leb 2 (length u) h, f, eq-eqb head.nuh_temporal_id_plus1 0 e)
 
@@ -147,47 +151,52 @@ and-true : (a : Bool) → (a && true) ≡ a
 and-true true = refl
 and-true false = refl
 
+not_not : (a : Bool) → not (not a) ≡ a
+not_not true = refl
+not_not false = refl
+
 -- two durations clash: the first waits when the second is set
 two-clash : (d : ℕ) (a b c : Bool) → (not (eqb d 0) && (a && (b && (eqb d 0 && c)))) ≡ false
 two-clash d a b c =
     by_equal d 0 (λ e. rw (eq-eqb d 0 e)) (λ e. rw (ne_eqb d 0 e) (and-false a (b && false) (and-false b false refl)))
 
-pub settles-by : (w : ℕ) (ds : List ℕ) → settles_by w (length ds) (last_of ds) ≡ settles w ds
+pub settles-by : (w : ℕ) (b : Bool) (ds : List ℕ) → b ≡ not (eqb w 0) → settles_by b (summary ds) ≡ settles w ds
 unfolding last_of
-settles-by w [] = refl
-settles-by w (d ∷ []) = rw (and-true (eqb w 0))
-settles-by w (d ∷ e ∷ ds) =
+settles-by w b [] k = refl
+settles-by w b (d ∷ []) k = rw (k, and-true (eqb w 0), not_not (eqb w 0))
+settles-by w b (d ∷ e ∷ ds) k =
     rw (ne_eqb (suc (suc (length ds))) 0 (λ z. omega arith), ne_eqb (suc (suc (length ds))) 1 (λ z. omega arith))
     (sym (two-clash d (eqb w 0) (not (eqb e 0)) (settles e ds)))
 
-module _ (alpha : Bool) (w : ℕ) (u : List ℕ) (v : Verdict) (e : v ≡ verdict_of (unit_says alpha u)) where
+module _ (alpha : Bool) (w : ℕ) (u : List ℕ) where
   abbrev settled : Outcome Said → Outcome Said
   settled o = o >>= λ x. guard (settles w x.durations) 24 0 >>= λ _. ok x
 
-  pub judged-refused : (v.status ≡ 0 → ⊥) → v ≡ verdict_of (judged alpha w u)
+  pub judged-refused : (s : ℕ) → error s 0 ≡ verdict_of (unit_says alpha u) → error s 0 ≡ verdict_of (judged alpha w u)
   unfolding judged
-  judged-refused n = by (unit_says alpha u) e
+  judged-refused s e = by (unit_says alpha u) e
     where
-      by : (o : Outcome Said) → v ≡ verdict_of o → v ≡ verdict_of (settled o)
-      by (ok x) f = absurd (n (ap (λ (y : Verdict). y.status) f))
-      by (error s o) f = f
+      by : (o : Outcome Said) → error s 0 ≡ verdict_of o → error s 0 ≡ verdict_of (settled o)
+      by (ok x) f = absurd (error-not-ok f)
+      by (error t o) f = f
 
-  pub judged-settled : settles_by w v.count v.duration ≡ true → v ≡ verdict_of (judged alpha w u)
-  unfolding judged
-  judged-settled k = by (unit_says alpha u) e
-    where
-      by : (o : Outcome Said) → v ≡ verdict_of o → v ≡ verdict_of (settled o)
-      by (ok x) f =
-          f ∙ rw (sym (settles-by w x.durations) ∙ sym (ap (λ (y : Verdict). settles_by w y.count y.duration) f) ∙ k)
-      by (error s o) f = f
+  module _ (v : Verdict) (e : ok v ≡ verdict_of (unit_says alpha u)) (b : Bool) (k : b ≡ not (eqb w 0)) where
+    pub judged-settled : settles_by b v.durations ≡ true → ok v ≡ verdict_of (judged alpha w u)
+    unfolding judged
+    judged-settled t = by (unit_says alpha u) e
+      where
+        by : (o : Outcome Said) → ok v ≡ verdict_of o → ok v ≡ verdict_of (settled o)
+        by (ok x) f =
+            f ∙ rw (sym (settles-by w b x.durations k) ∙ sym (ap (λ (y : Verdict). settles_by b y.durations) (ok-injective f)) ∙ t)
+        by (error s o) f = f
 
-  pub judged-clash : settles_by w v.count v.duration ≡ false → refused_by 24 ≡ verdict_of (judged alpha w u)
-  unfolding judged
-  judged-clash k = by (unit_says alpha u) e
-    where
-      by : (o : Outcome Said) → v ≡ verdict_of o → refused_by 24 ≡ verdict_of (settled o)
-      by (ok x) f = rw (sym (settles-by w x.durations) ∙ sym (ap (λ (y : Verdict). settles_by w y.count y.duration) f) ∙ k)
-      by (error s o) f = one_answer refl (sym (ap (λ (y : Verdict). settles_by w y.count y.duration) f) ∙ k)
+    pub judged-clash : settles_by b v.durations ≡ false → error 24 0 ≡ verdict_of (judged alpha w u)
+    unfolding judged
+    judged-clash t = by (unit_says alpha u) e
+      where
+        by : (o : Outcome Said) → ok v ≡ verdict_of o → error 24 0 ≡ verdict_of (settled o)
+        by (ok x) f = rw (sym (settles-by w b x.durations k) ∙ sym (ap (λ (y : Verdict). settles_by b y.durations) (ok-injective f)) ∙ t)
+        by (error s o) f = absurd (error-not-ok (sym f))
 
 -- a unit that is judged passes
 pub judged-passed : (alpha : Bool) (w : ℕ) (u : List ℕ) (x : Said) → judged alpha w u ≡ ok x → unit_says alpha u ≡ ok x

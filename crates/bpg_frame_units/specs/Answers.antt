@@ -1,9 +1,10 @@
 -- What the inner functions answer.
-use Rattle.std.specs.Prelude.{Bool, false, not, ◌&&◌, ◌||◌, List, [], ◌≡◌, ℕ, ◌≤◌, eqb, length, drop, get_or}
+use Rattle.std.specs.Prelude.{Bool, not, ◌&&◌, ◌||◌, Option, Some, None, List, [], ◌≡◌, ℕ, ◌≤◌, eqb, length, drop, get_or}
 use Rattle.bpg_codec.specs.Select.{select}
-use Rattle.bpg_codec.specs.Outcome.{Outcome, ok, error}
+use Rattle.bpg_codec.specs.Outcome.{Outcome, ok, error, ◌>>=◌}
 use Rattle.bpg_nal_units.specs.Units.{units}
-use Rattle.bpg_sei.specs.Steps.{last_of}
+use Rattle.bpg_sei.specs.declared.messages.Durations.{Durations}
+use Rattle.bpg_sei.specs.Steps.{summary}
 use Rattle.bpg_frame_units.specs.declared.kind.Verdict.{Verdict}
 use Rattle.bpg_frame_units.specs.declared.wait.Waiting.{Waiting}
 use Rattle.bpg_frame_units.specs.declared.count.Frames.{Frames}
@@ -17,19 +18,25 @@ pub record Headed (u : List ℕ) : Type 0 where
   pub long : 2 ≤ length u
   pub temporal : get_or u 1 0 ≡ 0 → ⊥
 
-abbrev pub refused_by : (status : ℕ) → Verdict
-refused_by s = record { status = s; starts = false; count = 0; duration = 0 }
+-- the durations by their number and the last
+abbrev pub verdict : Said → Verdict
+verdict x = record { starts = x.starts; durations = summary x.durations }
 
-abbrev pub verdict_of : Outcome Said → Verdict
-verdict_of (ok x) = record { status = 0; starts = x.starts; count = length x.durations; duration = last_of x.durations }
-verdict_of (error s o) = refused_by s
+abbrev pub verdict_of : Outcome Said → Outcome Verdict
+verdict_of o = o >>= λ x. ok (verdict x)
 
--- refusal 24, by how many durations there are and the last
-abbrev pub settles_by : (pending count duration : ℕ) → Bool
-settles_by w n d = eqb n 0 || (eqb n 1 && (not (eqb d 0) && eqb w 0))
+-- refusal 24, by how many durations there are and the last; and by whether one waits before them
+abbrev pub settles_by : (waits : Bool) → Durations → Bool
+settles_by w d = eqb d.count 0 || (eqb d.count 1 && (not (eqb d.last 0) && not w))
 
-abbrev pub wait_by : Waiting → Verdict → (p : ℕ) → Waiting
-wait_by w v p = select v.starts nothing (select (eqb v.count 0) w (record { duration = v.duration; unit = record { 0 = p } }))
+-- what waits, as the rules have it: 0 for none
+abbrev pub waits : Option Waiting → Waiting
+waits None = nothing
+waits (Some w) = w
+
+abbrev pub wait_by : Option Waiting → Verdict → (p : ℕ) → Option Waiting
+wait_by w v p =
+    select v.starts None (select (eqb v.durations.count 0) w (Some (record { duration = v.durations.last; unit = record { 0 = p } })))
 
 -- ---- the passes
 
@@ -40,8 +47,14 @@ frames_answer (error s o) = record { status = s; offset = o; count = 0 }
 abbrev pub refused_frames : (status offset : ℕ) → Frames
 refused_frames s o = record { status = s; offset = o; count = 0 }
 
-abbrev pub ended : (count : ℕ) → Waiting → Frames
-ended n w = select (eqb w.duration 0) (record { status = 0; offset = 0; count = n }) (refused_frames 24 w.unit.0)
+-- how many durations there are
+abbrev pub counted : Outcome (List ℕ) → Outcome ℕ
+counted o = o >>= λ ds. ok (length ds)
+
+-- 24: one still waits at the end
+abbrev pub ended : (count : ℕ) → Option Waiting → Outcome ℕ
+ended n None = ok n
+ended n (Some w) = error 24 w.unit.0
 
 -- the frames of the data from p to the end of the file
 abbrev pub frames_at : (f : List ℕ) (p : ℕ) (alpha : Bool) → Outcome (List ℕ)

@@ -1,30 +1,20 @@
 // What a unit says of frames, by its kind: a slice, a prefix SEI, or another.
 ghost use Rattle.std.specs.Prelude.{◌≡◌, get_or};
 ghost use Rattle.bpg_nal_units.specs.Headers.{header_of};
+ghost use Rattle.bpg_refusal.specs.Outcomes.{outcome_at_zero};
 ghost use Rattle.bpg_frame_units.specs.Units.{is_slice, is_prefix_sei, starts_frame, allowed_unit, slice_says, sei_says, kind_says};
-ghost use Rattle.bpg_frame_units.specs.Answers.{Headed, verdict_of, refused_by};
+ghost use Rattle.bpg_frame_units.specs.Answers.{Headed, verdict_of};
 
 use bpg_bytes::byte_at;
-use bpg_nal_units::{NalHeader, header};
+use bpg_nal_units::NalHeader;
+use bpg_refusal::Reason;
+use bpg_sei::Durations;
 
-// A refusal's status, 0 for none; whether a frame starts; how many durations are set, and the last.
-#[derive(Clone, Copy)]
+// Whether a frame starts in a unit, and the durations that it sets for the frames after it.
+#[derive(Clone, Copy, Default)]
 pub struct Verdict {
-    pub status: u8,
     pub starts: bool,
-    pub count: usize,
-    pub duration: u16,
-}
-
-pub(crate) fn refused_by(status: u8) -> Verdict
-    ensures { result ≡ refused_by status }
-{
-    Verdict {
-        status,
-        starts: false,
-        count: 0,
-        duration: 0,
-    }
+    pub durations: Durations,
 }
 
 fn is_slice(header: NalHeader) -> bool
@@ -51,45 +41,43 @@ fn is_allowed(header: NalHeader, alpha: bool) -> bool
 pub fn starts_frame(bytes: &[u8]) -> bool
     ensures { result ≡ starts_frame bytes.now }
 {
-    let header = header(byte_at(bytes, 0), byte_at(bytes, 1));
+    let header = NalHeader::of(byte_at(bytes, 0), byte_at(bytes, 1));
     is_slice(header) & (128 <= byte_at(bytes, 2))
 }
 
 // A slice of layer 0: the first bit after its header is 1 where a frame starts.
-fn slice(unit: &[u8]) -> Verdict
-    ensures { result ≡ verdict_of (slice_says unit.now) }
+fn slice(unit: &[u8]) -> Result<Verdict, Reason>
+    ensures { outcome_at_zero result ≡ verdict_of (slice_says unit.now) }
 {
     if unit.len() < 3 {
-        return refused_by(22);
+        return Err(Reason::BadNalUnit);
     }
-    Verdict {
-        status: 0,
+    Ok(Verdict {
         starts: 128 <= unit[2],
-        count: 0,
-        duration: 0,
-    }
+        durations: Durations::default(),
+    })
 }
 
-fn prefix_sei(unit: &[u8]) -> Verdict
-    ensures { (get_or unit.now 1 0 ≡ 0 → ⊥) → result ≡ verdict_of (sei_says unit.now) }
+fn prefix_sei(unit: &[u8]) -> Result<Verdict, Reason>
+    ensures { (get_or unit.now 1 0 ≡ 0 → ⊥) → outcome_at_zero result ≡ verdict_of (sei_says unit.now) }
 {
-    let sei = bpg_sei::read(unit);
-    Verdict {
-        status: sei.status,
+    let Some(durations) = bpg_sei::read(unit) else {
+        return Err(Reason::BadNalUnit);
+    };
+    Ok(Verdict {
         starts: false,
-        count: sei.count,
-        duration: sei.duration,
-    }
+        durations,
+    })
 }
 
 // What a unit says that has a header with a temporal id. One that is too short for a header is refused.
-pub fn verdict_on(unit: &[u8], alpha: bool) -> Verdict
-    ensures { Headed unit.now → result ≡ verdict_of (kind_says alpha unit.now (header_of (get_or unit.now 0 0) (get_or unit.now 1 0))) }
+pub fn verdict_on(unit: &[u8], alpha: bool) -> Result<Verdict, Reason>
+    ensures { Headed unit.now → outcome_at_zero result ≡ verdict_of (kind_says alpha unit.now (header_of (get_or unit.now 0 0) (get_or unit.now 1 0))) }
 {
     if unit.len() < 2 {
-        return refused_by(22);
+        return Err(Reason::BadNalUnit);
     }
-    let header = header(unit[0], unit[1]);
+    let header = NalHeader::of(unit[0], unit[1]);
     if is_slice(header) {
         return slice(unit);
     }
@@ -97,7 +85,8 @@ pub fn verdict_on(unit: &[u8], alpha: bool) -> Verdict
         return prefix_sei(unit);
     }
     if is_allowed(header, alpha) {
-        return refused_by(0);
+        Ok(Verdict::default())
+    } else {
+        Err(Reason::BadNalLayer)
     }
-    refused_by(23)
 }

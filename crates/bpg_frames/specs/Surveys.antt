@@ -2,9 +2,9 @@
 use Rattle.std.specs.Prelude.{Bool, ◌≡◌, List, [], ℕ, ◌≤◌, ◌<◌, ◌^◌, length}
 use Rattle.bpg_codec.specs.Outcome.{Outcome, ok, error}
 use Rattle.bpg_frame_units.specs.declared.count.Frames.{Frames}
-use Rattle.bpg_frame_units.specs.Answers.{frames_at}
+use Rattle.bpg_frame_units.specs.Answers.{counted, frames_at}
 use Rattle.bpg_frames.specs.declared.calls.Survey.{Survey}
-use Rattle.bpg_frames.specs.Calls.{data_at, alpha_in, frame_count}
+use Rattle.bpg_frames.specs.Calls.{data_at, alpha_in, frames_of}
 
 abbrev pub value_of : Outcome (List ℕ) → List ℕ
 value_of (ok l) = l
@@ -21,9 +21,13 @@ pub record Storable (f : List ℕ) (p : ℕ) (alpha : Bool) (count : ℕ) (list 
   pub counted : count ≡ length (durations_at f p alpha)
   pub room : count ≤ length list
 
--- ---- a file before anything is stored
+-- ---- a file before anything is stored, or refused
 
 pub record Surveyed (f : List ℕ) (s : Survey) : Type 0 where
-  pub answer : ◌≡◌ {A = Frames} (record { status = s.status; offset = s.offset; count = s.count }) (frame_count f)
-  pub start : s.status ≡ 0 → s.start.0 ≡ data_at f
-  pub alpha : s.status ≡ 0 → s.alpha ≡ alpha_in f
+  pub count : counted (frames_of f) ≡ ok s.count
+  pub start : s.start.0 ≡ data_at f
+  pub alpha : s.alpha ≡ alpha_in f
+
+pub record Refused (f : List ℕ) (r : Frames) : Type 0 where
+  pub same : frames_of f ≡ error r.status r.offset
+  pub none : r.count ≡ 0

@@ -1,81 +1,64 @@
 // The two calls.
-ghost use Rattle.std.specs.Prelude.{false, ◌≡◌};
+ghost use Rattle.std.specs.Prelude.{◌≡◌, MatchResult};
 ghost use Rattle.bpg_frame_units.specs.Frames.{enough};
 ghost use Rattle.bpg_frames.specs.Calls.{frame_count, frames_call, frames_list};
-ghost use Rattle.bpg_frames.specs.Surveys.{Surveyed};
+ghost use Rattle.bpg_frames.specs.Surveys.{Surveyed, Refused};
 
 use crate::store::store_durations;
 use bpg_bytes::BytePos;
 use bpg_format::has_alpha;
-use bpg_frame_units::count::{Frames, count_frames, refused};
+use bpg_frame_units::count::{Frames, count_frames};
+use bpg_refusal::Reason;
 
-// The answer for a file before anything is stored; and on success where its data starts, and whether there is alpha.
+// What a file's frames are stored by: how many there are, where its data starts, and whether there is alpha. None is kept.
 #[derive(Clone, Copy)]
 pub struct Survey {
-    pub status: u8,
-    pub offset: usize,
     pub count: usize,
     pub start: BytePos,
     pub alpha: bool,
 }
 
-fn survey_refused(status: u8, offset: usize) -> Survey
-    ensures { result ≡ record { status = status; offset = offset; count = 0; start = record { 0 = 0 }; alpha = false } }
-{
-    Survey {
-        status,
-        offset,
-        count: 0,
-        start: BytePos(0),
-        alpha: false,
-    }
-}
-
 // Refusal 25: one frame in a still file, two or more in an animated one.
+#[tactic(auto, unfolding(bpg_codec::specs::Select::select))]
 fn is_enough(animated: bool, count: usize) -> bool
     ensures { result ≡ enough animated count }
 {
-    if animated {
-        return 2 <= count;
-    }
-    count == 1
+    if animated { 2 <= count } else { count == 1 }
 }
 
-fn survey_file(file: &[u8]) -> Survey
-    ensures { Surveyed file.now result }
+// A file before anything is stored; or the answer for a file that is refused.
+fn survey_file(file: &[u8]) -> Result<Survey, Frames>
+    ensures { MatchResult result (Surveyed file.now) (Refused file.now) }
 {
     let reading = bpg_reader::read(file);
     if reading.status != 0 {
-        return survey_refused(reading.status, reading.offset);
+        return Err(Frames {
+            status: reading.status,
+            offset: reading.offset,
+            count: 0,
+        });
     }
-    let record = reading.record;
-    let start = record.data.start as usize;
+    let record = &reading.record;
+    let start = BytePos(record.data.start as usize);
     let alpha = has_alpha(record.alpha1_flag, record.alpha2_flag);
-    let frames = count_frames(file, BytePos(start), alpha);
-    if frames.status != 0 {
-        return survey_refused(frames.status, frames.offset);
+    let count = count_frames(file, start, alpha)?;
+    if !is_enough(record.animation_flag, count) {
+        return Err(Frames::from(Reason::BadFrameCount.at(start)));
     }
-    if !is_enough(record.animation_flag, frames.count) {
-        return survey_refused(25, start);
-    }
-    Survey {
-        status: 0,
-        offset: 0,
-        count: frames.count,
-        start: BytePos(start),
+    Ok(Survey {
+        count,
+        start,
         alpha,
-    }
+    })
 }
 
 // How many frames a file has.
 pub fn frame_count(file: &[u8]) -> Frames
     ensures { result ≡ frame_count file.now }
 {
-    let survey = survey_file(file);
-    Frames {
-        status: survey.status,
-        offset: survey.offset,
-        count: survey.count,
+    match survey_file(file) {
+        Ok(survey) => Frames::of(survey.count),
+        Err(refused) => refused,
     }
 }
 
@@ -84,17 +67,13 @@ pub fn frames(file: &[u8], durations: &mut [u16]) -> Frames
     ensures value { result ≡ frames_call file.now durations.old }
     ensures durations_after { durations.new ≡ frames_list file.now durations.old }
 {
-    let survey = survey_file(file);
-    if survey.status != 0 {
-        return refused(survey.status, survey.offset);
-    }
+    let survey = match survey_file(file) {
+        Ok(survey) => survey,
+        Err(refused) => return refused,
+    };
     if durations.len() < survey.count {
-        return refused(20, 0);
+        return Frames::from(Reason::BufferTooSmall.at(BytePos(0)));
     }
-    store_durations(file, survey.start, survey.alpha, survey.count, durations);
-    Frames {
-        status: 0,
-        offset: 0,
-        count: survey.count,
-    }
+    store_durations(file, survey, durations);
+    Frames::of(survey.count)
 }

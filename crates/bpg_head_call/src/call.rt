@@ -9,7 +9,7 @@ use bpg_read_head::head::Head;
 // How many fields a head has.
 pub const HEAD_NUMBERS: usize = 12;
 
-// A head without the places that later refusals name; a refused one is all zero.
+// A head without the places that later refusals name. (A function and no method, as the next two are: the type is of the crate below.)
 pub fn coded(head: Head) -> CodedHead
     ensures { result ≡ fields_of head }
 {
@@ -29,18 +29,18 @@ pub fn head_numbers(head: CodedHead) -> [u64; HEAD_NUMBERS]
 {
     let flags = head.flags;
     [
-        flags.pixel_format as u64,
-        flags.alpha1_flag as u64,
-        flags.bit_depth_minus_8 as u64,
-        flags.color_space as u64,
-        flags.extension_present_flag as u64,
-        flags.alpha2_flag as u64,
-        flags.limited_range_flag as u64,
-        flags.animation_flag as u64,
-        head.picture_width as u64,
-        head.picture_height as u64,
-        head.data_length as u64,
-        head.extension_length as u64,
+        u64::from(flags.pixel_format),
+        u64::from(flags.alpha1_flag),
+        u64::from(flags.bit_depth_minus_8),
+        u64::from(flags.color_space),
+        u64::from(flags.extension_present_flag),
+        u64::from(flags.alpha2_flag),
+        u64::from(flags.limited_range_flag),
+        u64::from(flags.animation_flag),
+        u64::from(head.picture_width),
+        u64::from(head.picture_height),
+        u64::from(head.data_length),
+        u64::from(head.extension_length),
     ]
 }
 
@@ -48,28 +48,19 @@ pub fn head_numbers(head: CodedHead) -> [u64; HEAD_NUMBERS]
 pub fn is_head(list: &[u64], head: CodedHead) -> bool
     ensures { result ≡ is_head list.now head }
 {
-    if list.len() < HEAD_NUMBERS {
-        return false;
-    }
-    let numbers = head_numbers(head);
-    let mut all = true;
-    let mut i = 0;
-    while i < HEAD_NUMBERS {
-        all = all & (list[i] == numbers[i]);
-        i += 1;
-    }
-    all
+    list.starts_with(&head_numbers(head))
 }
 
 // The head of a file. Its first 27 bytes are always enough, and so is all of a shorter file; whether the block fits the file is not judged.
 pub fn head(file: &[u8]) -> HeadReading
     ensures { result ≡ head_file file.now }
 {
-    let reading = head::read(file);
-    let head = coded(reading);
-    HeadReading {
-        status: reading.status,
-        offset: reading.offset.0,
-        head,
+    match head::read(file) {
+        Ok(head) => HeadReading {
+            status: 0,
+            offset: 0,
+            head: coded(head),
+        },
+        Err(refusal) => HeadReading::refused(refusal),
     }
 }

@@ -1,21 +1,23 @@
 -- Heads compared field by field, and what the call answers.
 use mathlib.Core.Path.{◌≡◌, refl, sym, ap, ◌∙◌, subst}
 use mathlib.Core.Bool.{Bool, true, false}
-use mathlib.Core.List.{List, ◌++◌}
-use Prim.Native.Nat.{ℕ, ◌<◌}
-use native.Mathlib.Omega.{arith}
+use mathlib.Core.List.{List, [], ◌∷◌, ◌++◌}
+use Prim.Native.Nat.{ℕ}
 use lib.Dec.{T, eqb}
-use lib.ListN.{length, take, get_or, length-take}
+use lib.Pointwise.{pointwise}
+use native.Mathlib.Decide.{ℕ_discrete}
+use borrow.Author.Tests.{eq-eqb, ne_eqb}
+use lib.ListN.{take, get_or}
 use Rattle.bpg_codec.specs.Lists.{same}
 use Rattle.bpg_codec.specs.Bits.{bit}
-use Rattle.bpg_codec.specs.Outcome.{Outcome, ok, error}
+use Rattle.bpg_codec.specs.Outcome.{ok, error}
 use Rattle.bpg_codec.proofs.Select.{is_true}
 use Rattle.bpg_codec.proofs.Lists.{same-equal, same_refl}
-use Rattle.bpg_format.specs.Read.{Head, read_head}
+use Rattle.bpg_format.specs.Read.{read_head}
 use Rattle.bpg_read_head.specs.declared.head.Head.{Head as PlacedHead}
 use Rattle.bpg_head_rules.specs.declared.CodedHead.{CodedHead}
-use Rattle.bpg_read_head.specs.Heads.{head_answer}
-use Rattle.bpg_head_rules.specs.Calls.{fields_of, head_reading, head_file, head_numbers, is_head}
+use Rattle.bpg_read_head.specs.Heads.{head_fields}
+use Rattle.bpg_head_rules.specs.Calls.{fields_of, refused_head_reading, head_file, head_numbers, is_head}
 
 -- ---- a head is its numbers
 
@@ -70,26 +72,32 @@ is-head-means l h t = same-equal (take 12 l) (head_numbers h) (subst T (sym t) t
 pub same-means : (a b : CodedHead) → is_head (head_numbers a) b ≡ true → a ≡ b
 same-means a b t = sym (numbers-back a) ∙ ap from_numbers (is-head-means (head_numbers a) b t) ∙ numbers-back b
 
--- ---- a list compared number by number
+-- ---- a list compared with its numbers, pair by pair
 
-pub shorter : (l : List ℕ) (h : CodedHead) → length l < 12 → false ≡ is_head l h
-shorter l h k =
-    by_bool (is_head l h) (λ t. absurd (omega (arith, ap length (is-head-means l h t), length-take 12 l))) (λ f. sym f)
-  where
-    by_bool : {P : Type 0} (t : Bool) → (t ≡ true → P) → (t ≡ false → P) → P
-    by_bool true f g = f refl
-    by_bool false f g = g refl
+turned : (a b : ℕ) → eqb a b ≡ eqb b a
+turned a b =
+    elim (ℕ_discrete a b) [
+      | yes e ↦ eq-eqb a b e ∙ sym (eq-eqb b a (sym e))
+      | no n ↦ ne_eqb a b n ∙ sym (ne_eqb b a (λ e. n (sym e)))
+    ]
 
-pub twelve-same : (l : List ℕ) (h : CodedHead) (i : ℕ) → i ≡ 12 → same (take i l) (take i (head_numbers h)) ≡ is_head l h
+pairs-same : (l m : List ℕ) → pointwise eqb l m ≡ same m l
+pairs-same [] [] = refl
+pairs-same [] (y ∷ m) = refl
+pairs-same (x ∷ l) [] = refl
+pairs-same (x ∷ l) (y ∷ m) = rw (turned x y, pairs-same l m)
+
+pub pairs-head : (l : List ℕ) (h : CodedHead) → pointwise eqb (head_numbers h) (take 12 l) ≡ is_head l h
 unfolding is_head
-twelve-same l h i e = rw e
+pairs-head l h = pairs-same (head_numbers h) (take 12 l)
 
--- a head as the code holds it, without its places, is the call's answer
-pub without-places : (f : List ℕ) (h : PlacedHead) → h ≡ head_answer (read_head f)
-    → record { status = h.status; offset = h.offset.0; head = fields_of h } ≡ head_file f
-unfolding head_file
-without-places f h e = rw e (by (read_head f))
-  where
-    by : (o : Outcome Head) → record { status = (head_answer o).status; offset = (head_answer o).offset.0; head = fields_of (head_answer o) } ≡ head_reading o
-    by (ok g) = refl
-    by (error s p) = refl
+-- ---- a head as the code holds it, without its places, is the call's answer
+
+module _ (f : List ℕ) where
+  pub head-read : (h : PlacedHead) → ok (head_fields h) ≡ read_head f → record { status = 0; offset = 0; head = fields_of h } ≡ head_file f
+  unfolding head_file
+  head-read h e = rw (← e)
+
+  pub head-refused : (s o : ℕ) → error s o ≡ read_head f → refused_head_reading s o ≡ head_file f
+  unfolding head_file
+  head-refused s o e = rw (← e)

@@ -1,35 +1,36 @@
 // Hex digits: lines of them, read character by character into a buffer of bytes, and the digits of a byte.
 #![tactic(auto)]
 
-ghost use Rattle.std.specs.Prelude.{◌≡◌, ◌≤◌, ◌<◌, length as count};
-ghost use Rattle.bpg_hex.specs.HexLines.{digit_value, line_at, line_after, bytes_after, digit_of, digits_of};
+ghost use Rattle.std.specs.Prelude.{◌≡◌, ◌<◌, IfSome, length as count};
+ghost use Rattle.bpg_hex.specs.declared.line.Pending.TheVariants.{Nothing};
+ghost use Rattle.bpg_hex.specs.HexLines.{digit_value, count_after, pending_after, bytes_after, digit_of, digits_of};
 
-// `half` in a comment.
-const COMMENT: u8 = 17;
+mod line;
 
-// How far a line has been read: how many bytes, and `half`, a digit that waits for its second, or 16.
-#[derive(Clone, Copy)]
-pub struct HexLine {
-    pub count: usize,
-    half: u8,
-}
+pub use line::HexLine;
+use line::Pending;
 
+// A line of which nothing has been read.
 pub fn none() -> HexLine
-    ensures { result ≡ line_at 0 16 }
+    ensures count { result.count ≡ 0 }
+    ensures pending { result.pending ≡ Nothing }
 {
-    HexLine { count: 0, half: 16 }
+    HexLine {
+        count: 0,
+        pending: Pending::Nothing,
+    }
 }
 
-// A digit's value, or 16.
+// A digit's value.
 #[tactic(auto, unfolding(crate::specs::HexLines::digit_value, bpg_codec::specs::Select::select))]
-fn digit(c: u8) -> u8
-    ensures upper_bound { result ≤ 16 }
+fn digit(c: u8) -> Option<u8>
+    ensures below_16 { IfSome result (λ d. d < 16) }
     ensures value { result ≡ digit_value c }
 {
     match c {
-        b'0'..=b'9' => c - b'0',
-        b'a'..=b'f' => c - 87,
-        _ => 16,
+        b'0'..=b'9' => Some(c - b'0'),
+        b'a'..=b'f' => Some(c - 87),
+        _ => None,
     }
 }
 
@@ -37,34 +38,36 @@ fn digit(c: u8) -> u8
 // from `#` on, and what does not fit.
 #[tactic(auto, unfolding(crate::specs::HexLines::after_character, bpg_codec::specs::Select::select))]
 pub fn extend(bytes: &mut [u8], line: HexLine, c: u8) -> HexLine
-    ensures value { result ≡ line_after (count bytes.old) line c }
-    ensures bytes_after { bytes.new ≡ bytes_after bytes.old line c }
+    ensures count { result.count ≡ count_after (count bytes.old) line.count line.pending c }
+    ensures pending { result.pending ≡ pending_after (count bytes.old) line.count line.pending c }
+    ensures bytes_after { bytes.new ≡ bytes_after bytes.old line.count line.pending c }
 {
-    let d = digit(c);
     let count = line.count;
-    let half = line.half;
     if c == b'#' {
         return HexLine {
             count,
-            half: COMMENT,
+            pending: Pending::Comment,
         };
     }
-    if half == COMMENT {
+    let Some(d) = digit(c) else {
         return line;
-    }
-    if d == 16 {
-        return line;
-    }
-    if 16 <= half {
-        return HexLine { count, half: d };
-    }
-    if bytes.len() <= count {
-        return line;
-    }
-    bytes[count] = half * 16 + d;
-    HexLine {
-        count: count + 1,
-        half: 16,
+    };
+    match line.pending {
+        Pending::Comment => line,
+        Pending::Nothing => HexLine {
+            count,
+            pending: Pending::Digit(d),
+        },
+        Pending::Digit(high) => {
+            if bytes.len() <= count {
+                return line;
+            }
+            bytes[count] = high * 16 + d;
+            HexLine {
+                count: count + 1,
+                pending: Pending::Nothing,
+            }
+        }
     }
 }
 
@@ -74,10 +77,7 @@ fn glyph(n: u8) -> u8
     requires { n < 16 }
     ensures { result ≡ digit_of n }
 {
-    if n < 10 {
-        return b'0' + n;
-    }
-    87 + n
+    if n < 10 { b'0' + n } else { 87 + n }
 }
 
 // The two digits of a byte.

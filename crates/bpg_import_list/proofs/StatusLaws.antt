@@ -1,45 +1,45 @@
 -- Why a list gives no record, and what is known of one that does.
-use mathlib.Core.Path.{◌≡◌, refl}
-use mathlib.Core.Logic.{◌≢◌}
+use mathlib.Core.Path.{◌≡◌, refl, sym, ◌∙◌}
 use mathlib.Core.Bool.{Bool, true, false}
 use mathlib.Core.List.{List}
 use Prim.Native.Nat.{ℕ, ◌*◌, ◌≤◌, ◌<◌}
-use native.Mathlib.Omega.{arith}
 use lib.Dec.{leb, leb→le, nleb→lt}
 use lib.ListN.{length, take, drop}
 use borrow.Author.Tests.{le-leb, lt-leb}
 use Rattle.bpg_codec.specs.Outcome.{ok, error}
+use Rattle.bpg_codec.proofs.Outcome.{error-not-ok}
 use Rattle.bpg_format.specs.Limits.{max_entries}
+use Rattle.bpg_format.specs.declared.record.Record.{Record}
 use Rattle.bpg_export_list.specs.Numbers.{fixed_length, list_length}
 use Rattle.bpg_import_list.specs.Fields.{count_of, list_record}
-use Rattle.bpg_import_list.specs.Calls.{fixed_fits, words, read_list, status_of}
+use Rattle.bpg_import_list.specs.Calls.{fixed_fits, words, read_list}
 
 module _ (l : List ℕ) where
   -- the numbers of the entries in use
   abbrev entry_words : List ℕ
   entry_words = take (4 * count_of l) (drop fixed_length l)
 
-  pub no-fixed : length l < fixed_length → 20 ≡ status_of (read_list l)
+  pub no-fixed : length l < fixed_length → read_list l ≡ error 20 0
   unfolding read_list
   no-fixed h = rw (lt-leb fixed_length (length l) h)
 
   module _ (long : fixed_length ≤ length l) where
-    pub fixed-large : fixed_fits l ≡ false → 19 ≡ status_of (read_list l)
+    pub fixed-large : fixed_fits l ≡ false → read_list l ≡ error 19 0
     unfolding read_list
     fixed-large f = rw (le-leb fixed_length (length l) long, f)
 
     module _ (fits : fixed_fits l ≡ true) where
-      pub many : max_entries < count_of l → 11 ≡ status_of (read_list l)
+      pub many : max_entries < count_of l → read_list l ≡ error 11 0
       unfolding read_list
       many h = rw (le-leb fixed_length (length l) long, fits, lt-leb (count_of l) max_entries h)
 
       module _ (few : count_of l ≤ max_entries) where
-        pub no-entries : length l < list_length (count_of l) → 20 ≡ status_of (read_list l)
+        pub no-entries : length l < list_length (count_of l) → read_list l ≡ error 20 0
         unfolding read_list
         no-entries h = rw (le-leb fixed_length (length l) long, fits, le-leb (count_of l) max_entries few, lt-leb (list_length (count_of l)) (length l) h)
 
         module _ (whole : list_length (count_of l) ≤ length l) where
-          pub entry-large : words entry_words ≡ false → 19 ≡ status_of (read_list l)
+          pub entry-large : words entry_words ≡ false → read_list l ≡ error 19 0
           unfolding read_list
           entry-large w = rw (le-leb fixed_length (length l) long, fits, le-leb (count_of l) max_entries few, le-leb (list_length (count_of l)) (length l) whole, w)
 
@@ -56,8 +56,8 @@ module _ (l : List ℕ) where
     pub entries_fit : words entry_words ≡ true
     pub is : read_list l ≡ ok (list_record l)
 
-  pub gives : status_of (read_list l) ≡ 0 → Gives
-  gives z =
+  pub gives : {r : Record} → read_list l ≡ ok r → Gives
+  gives {r} z =
       by (leb fixed_length (length l)) (fixed_fits l) (leb (count_of l) max_entries) (leb (list_length (count_of l)) (length l)) (words entry_words) refl refl refl refl refl
     where
       le : (a b : ℕ) → leb a b ≡ true → a ≤ b
@@ -68,11 +68,11 @@ module _ (l : List ℕ) where
 
       by : (b1 b2 b3 b4 b5 : Bool) → leb fixed_length (length l) ≡ b1 → fixed_fits l ≡ b2 → leb (count_of l) max_entries ≡ b3 → leb (list_length (count_of l)) (length l) ≡ b4
           → words entry_words ≡ b5 → Gives
-      by false b2 b3 b4 b5 e1 e2 e3 e4 e5 = absurd (omega (arith, no-fixed (lt _ _ e1)))
-      by true false b3 b4 b5 e1 e2 e3 e4 e5 = absurd (omega (arith, fixed-large (le _ _ e1) e2))
-      by true true false b4 b5 e1 e2 e3 e4 e5 = absurd (omega (arith, many (le _ _ e1) e2 (lt _ _ e3)))
-      by true true true false b5 e1 e2 e3 e4 e5 = absurd (omega (arith, no-entries (le _ _ e1) e2 (le _ _ e3) (lt _ _ e4)))
-      by true true true true false e1 e2 e3 e4 e5 = absurd (omega (arith, entry-large (le _ _ e1) e2 (le _ _ e3) (le _ _ e4) e5))
+      by false b2 b3 b4 b5 e1 e2 e3 e4 e5 = absurd (error-not-ok (sym (no-fixed (lt _ _ e1)) ∙ z))
+      by true false b3 b4 b5 e1 e2 e3 e4 e5 = absurd (error-not-ok (sym (fixed-large (le _ _ e1) e2) ∙ z))
+      by true true false b4 b5 e1 e2 e3 e4 e5 = absurd (error-not-ok (sym (many (le _ _ e1) e2 (lt _ _ e3)) ∙ z))
+      by true true true false b5 e1 e2 e3 e4 e5 = absurd (error-not-ok (sym (no-entries (le _ _ e1) e2 (le _ _ e3) (lt _ _ e4)) ∙ z))
+      by true true true true false e1 e2 e3 e4 e5 = absurd (error-not-ok (sym (entry-large (le _ _ e1) e2 (le _ _ e3) (le _ _ e4) e5) ∙ z))
       by true true true true true e1 e2 e3 e4 e5 =
           record {
             fixed-long = le _ _ e1;
@@ -82,18 +82,3 @@ module _ (l : List ℕ) where
             entries_fit = e5;
             is = given (le _ _ e1) e2 (le _ _ e3) (le _ _ e4) e5;
           }
-
-  -- or the refusal, at 0
-  pub refused : status_of (read_list l) ≢ 0 → read_list l ≡ error (status_of (read_list l)) 0
-  unfolding read_list
-  refused n =
-      by (leb fixed_length (length l)) (fixed_fits l) (leb (count_of l) max_entries) (leb (list_length (count_of l)) (length l)) (words entry_words) refl refl refl refl refl
-    where
-      by : (b1 b2 b3 b4 b5 : Bool) → leb fixed_length (length l) ≡ b1 → fixed_fits l ≡ b2 → leb (count_of l) max_entries ≡ b3 → leb (list_length (count_of l)) (length l) ≡ b4
-          → words entry_words ≡ b5 → read_list l ≡ error (status_of (read_list l)) 0
-      by false b2 b3 b4 b5 e1 e2 e3 e4 e5 = rw e1
-      by true false b3 b4 b5 e1 e2 e3 e4 e5 = rw (e1, e2)
-      by true true false b4 b5 e1 e2 e3 e4 e5 = rw (e1, e2, e3)
-      by true true true false b5 e1 e2 e3 e4 e5 = rw (e1, e2, e3, e4)
-      by true true true true false e1 e2 e3 e4 e5 = rw (e1, e2, e3, e4, e5)
-      by true true true true true e1 e2 e3 e4 e5 = absurd (n (rw (e1, e2, e3, e4, e5)))

@@ -9,7 +9,7 @@ use Rattle.bpg_format.specs.Limits.{max_file}
 use Rattle.bpg_format.specs.declared.record.Record.{Record}
 use Rattle.bpg_format.specs.Write.{write_outcome, written_answer, written_buffer, write_file, write_buffer, write_size}
 use Rattle.bpg_import_list.specs.Fields.{list_record}
-use Rattle.bpg_import_list.specs.Calls.{read_list, status_of, list_outcome, write_answer, write_bytes, size_answer}
+use Rattle.bpg_import_list.specs.Calls.{read_list, list_outcome, write_answer, write_bytes, size_answer}
 use Rattle.bpg_import_list.specs.Typing.{Listable}
 use Rattle.bpg_import_list.specs.Theorems.{ListOf, ListTheorems}
 use Rattle.bpg_import_list.proofs.StatusLaws.{gives}
@@ -18,7 +18,7 @@ use Rattle.bpg_import_list.proofs.ListRecords.{listable, list_of}
 
 from_list : (l : List ℕ) (r : Record) → read_list l ≡ ok r → Listable r × ListOf r l
 from_list l r e =
-    let g = gives l (ap status_of e) in
+    let g = gives l e in
     let is : list_record l ≡ r = ok-injective (sym g.is ∙ e) in
     subst (λ (x : Record). Listable x × ListOf x l) is (listable l g, list_of l g)
 

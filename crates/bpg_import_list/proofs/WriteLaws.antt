@@ -1,35 +1,34 @@
 -- What writing from a list answers: the list's refusal, or as its record is written.
 use mathlib.Core.Path.{◌≡◌, sym, ap, ◌∙◌}
-use mathlib.Core.Logic.{◌≢◌}
 use mathlib.Core.List.{List}
 use Prim.Native.Nat.{ℕ}
 use lib.ListN.{length}
-use Rattle.bpg_codec.specs.Outcome.{Outcome, error}
+use Rattle.bpg_codec.specs.Outcome.{Outcome, ok, error}
 use Rattle.bpg_format.specs.Limits.{max_file}
 use Rattle.bpg_format.specs.declared.record.Record.{Record}
 use Rattle.bpg_format.specs.declared.answer.Written.{Written}
 use Rattle.bpg_format.specs.Zero.{refused_written}
 use Rattle.bpg_format.specs.Write.{write_outcome, written_answer, written_buffer, write_file, write_buffer, write_size}
 use Rattle.bpg_import_list.specs.Fields.{list_record}
-use Rattle.bpg_import_list.specs.Calls.{read_list, status_of, list_outcome, write_answer, write_bytes, size_answer}
-use Rattle.bpg_import_list.proofs.StatusLaws.{gives, refused}
+use Rattle.bpg_import_list.specs.Calls.{read_list, list_outcome, write_answer, write_bytes, size_answer}
 
 module _ (numbers source : List ℕ) where
-  refused-list : (capacity s : ℕ) → s ≡ status_of (read_list numbers) → s ≢ 0 → list_outcome capacity numbers source ≡ error s 0
+  refused-list : (capacity n : ℕ) → read_list numbers ≡ error n 0 → list_outcome capacity numbers source ≡ error n 0
   unfolding list_outcome
-  refused-list capacity s e n = let r = refused numbers (λ z. n (e ∙ z)) in rw r (ap (λ (x : ℕ). error x 0) (sym e))
+  refused-list capacity n e = rw e
 
-  of-record : (capacity : ℕ) → status_of (read_list numbers) ≡ 0 → (r : Record) → r ≡ list_record numbers → list_outcome capacity numbers source ≡ write_outcome capacity r source
+  of-record : (capacity : ℕ) → read_list numbers ≡ ok (list_record numbers) → (r : Record) → r ≡ list_record numbers
+      → list_outcome capacity numbers source ≡ write_outcome capacity r source
   unfolding list_outcome
-  of-record capacity z r c = let is = (gives numbers z).is in rw (is, c)
+  of-record capacity is r c = rw (is, c)
 
-  pub size-refused : (s : ℕ) → s ≡ status_of (read_list numbers) → s ≢ 0 → refused_written s 0 ≡ size_answer numbers source
+  pub size-refused : (n : ℕ) → read_list numbers ≡ error n 0 → refused_written n 0 ≡ size_answer numbers source
   unfolding size_answer
-  size-refused s e n = ap written_answer (sym (refused-list max_file s e n))
+  size-refused n e = ap written_answer (sym (refused-list max_file n e))
 
-  pub record-size : status_of (read_list numbers) ≡ 0 → (r : Record) → r ≡ list_record numbers → write_size r source ≡ size_answer numbers source
+  pub record-size : read_list numbers ≡ ok (list_record numbers) → (r : Record) → r ≡ list_record numbers → write_size r source ≡ size_answer numbers source
   unfolding size_answer write_size
-  record-size z r c = ap written_answer (sym (of-record max_file z r c))
+  record-size is r c = ap written_answer (sym (of-record max_file is r c))
 
   module _ (out : List ℕ) where
     -- the answer, and the buffer after it
@@ -40,12 +39,12 @@ module _ (numbers source : List ℕ) where
     unfolding write_answer write_bytes
     of-outcome o e = (ap written_answer (sym e), ap (λ (x : Outcome (List ℕ)). written_buffer x out) (sym e))
 
-    pub list-refused : (s : ℕ) → s ≡ status_of (read_list numbers) → s ≢ 0 → Answers (refused_written s 0) out
-    list-refused s e n = of-outcome (error s 0) (refused-list (length out) s e n)
+    pub list-refused : (n : ℕ) → read_list numbers ≡ error n 0 → Answers (refused_written n 0) out
+    list-refused n e = of-outcome (error n 0) (refused-list (length out) n e)
 
-    pub as-record : status_of (read_list numbers) ≡ 0 → (r : Record) → r ≡ list_record numbers → (w : Written) (after : List ℕ)
+    pub as-record : read_list numbers ≡ ok (list_record numbers) → (r : Record) → r ≡ list_record numbers → (w : Written) (after : List ℕ)
         → w ≡ write_file r source out → after ≡ write_buffer r source out → Answers w after
     unfolding write_file write_buffer
-    as-record z r c w after p q =
-        let a = of-outcome (write_outcome (length out) r source) (of-record (length out) z r c) in
+    as-record is r c w after p q =
+        let a = of-outcome (write_outcome (length out) r source) (of-record (length out) is r c) in
         (p ∙ a.0, q ∙ a.1)

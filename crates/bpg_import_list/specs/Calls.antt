@@ -1,6 +1,6 @@
 -- What writing from a list of numbers answers.
 use Rattle.std.specs.Prelude.{Bool, true, ◌&&◌, List, [], ◌∷◌, ℕ, ◌*◌, ◌-◌, ◌^◌, leb, length, take, drop, get_or}
-use Rattle.bpg_codec.specs.Outcome.{Outcome, ok, error, ◌>>=◌, guard}
+use Rattle.bpg_codec.specs.Outcome.{Outcome, ok, ◌>>=◌, guard}
 use Rattle.bpg_format.specs.Limits.{max_entries, max_file}
 use Rattle.bpg_format.specs.declared.record.Record.{Record}
 use Rattle.bpg_format.specs.declared.answer.Written.{Written}
@@ -64,11 +64,6 @@ read_list l =
     guard (leb (list_length (count_of l)) (length l)) 20 0 >>= λ _.
     guard (words (take (4 * count_of l) (drop fixed_length l))) 19 0 >>= λ _.
     ok (list_record l)
-
--- 0, or the refusal's number
-abbrev pub status_of : Outcome Record → ℕ
-status_of (ok r) = 0
-status_of (error s o) = s
 
 -- ---- and then as the record is written
 

@@ -4,16 +4,16 @@ ghost use Rattle.bpg_import_list.specs.Calls.{write_answer, write_bytes, size_an
 
 use crate::check;
 use crate::record::record;
-use bpg_format::{Written, written_refused};
+use bpg_bytes::BytePos;
+use bpg_format::Written;
 
 // Writes the file of the record that a list gives, whose ranges are in `source`, from the start of `out`; a refusal leaves `out` as it is.
 pub fn write(numbers: &[u64], source: &[u8], out: &mut [u8]) -> Written
     ensures value { result ≡ write_answer numbers.now source.now out.old }
     ensures out_after { out.new ≡ write_bytes numbers.now source.now out.old }
 {
-    let status = check::status(numbers);
-    if status != 0 {
-        return written_refused(status, 0);
+    if let Err(reason) = check::judge(numbers) {
+        return Written::refused(reason.at(BytePos(0)));
     }
     bpg_writer::write(record(numbers), source, out)
 }
@@ -22,9 +22,8 @@ pub fn write(numbers: &[u64], source: &[u8], out: &mut [u8]) -> Written
 pub fn size(numbers: &[u64], source: &[u8]) -> Written
     ensures { result ≡ size_answer numbers.now source.now }
 {
-    let status = check::status(numbers);
-    if status != 0 {
-        return written_refused(status, 0);
+    if let Err(reason) = check::judge(numbers) {
+        return Written::refused(reason.at(BytePos(0)));
     }
     bpg_writer::size(record(numbers), source)
 }

@@ -6,12 +6,9 @@ ghost use Rattle.bpg_export_list.specs.Numbers.{fixed_length, list_length};
 ghost use Rattle.bpg_import_list.specs.Fields.{flag_at, u8_at, u16_at, u32_at, range_at, entry_at, list_entries, range_flags_at, header_at, count_of, list_record};
 
 use bpg_export_list::{ALPHA, COLOR, COUNT, DATA, FIXED, LOOP};
-use bpg_format::{Entry, Header, MAX_ENTRIES, Range, Record, zero_entry};
+use bpg_format::{Entry, Header, MAX_ENTRIES, Range, Record};
 
-const PERIOD_NUM: usize = LOOP + 1;
-
-const PERIOD_DEN: usize = LOOP + 2;
-
+// One function a width, each a line: one over a trait of the four types would take an impl for each.
 fn flag(numbers: &[u64], k: usize) -> bool
     requires { k < count numbers.now }
     ensures { result ≡ flag_at numbers.now k }
@@ -54,13 +51,10 @@ fn entry(numbers: &[u64], k: usize) -> Entry
     requires { k + 4 ≤ count numbers.now }
     ensures { result ≡ entry_at numbers.now k }
 {
-    let tag = u32_at(numbers, k);
-    let payload = range(numbers, k + 1);
-    let tag_offset = u32_at(numbers, k + 3);
     Entry {
-        tag,
-        payload,
-        tag_offset,
+        tag: u32_at(numbers, k),
+        payload: range(numbers, k + 1),
+        tag_offset: u32_at(numbers, k + 3),
     }
 }
 
@@ -70,33 +64,26 @@ fn entries(numbers: &[u64], used: usize) -> [Entry; MAX_ENTRIES]
     requires used_bound { list_length used ≤ count numbers.now }
     ensures { result ≡ pad_entries (list_entries numbers.now fixed_length used) }
 {
-    let none = zero_entry();
-    let mut all = [none; MAX_ENTRIES];
-    let mut k: usize = 0;
-    while k < used {
+    let mut all = [Entry::default(); MAX_ENTRIES];
+    for k in 0..used {
         all[k] = entry(numbers, FIXED + 4 * k);
-        k += 1;
     }
     all
 }
 
+// A loop over the slots: of `array::from_fn` the proof did not close.
 fn range_flags(numbers: &[u64], k: usize) -> [bool; 9]
     requires { k + 9 ≤ count numbers.now }
     ensures { result ≡ range_flags_at numbers.now k }
 {
-    [
-        flag(numbers, k),
-        flag(numbers, k + 1),
-        flag(numbers, k + 2),
-        flag(numbers, k + 3),
-        flag(numbers, k + 4),
-        flag(numbers, k + 5),
-        flag(numbers, k + 6),
-        flag(numbers, k + 7),
-        flag(numbers, k + 8),
-    ]
+    let mut flags = [false; 9];
+    for (i, set) in flags.iter_mut().enumerate() {
+        *set = flag(numbers, k + i);
+    }
+    flags
 }
 
+#[tactic(auto, unfolding(crate::specs::Fields::header_at))]
 fn header(numbers: &[u64], k: usize) -> Header
     requires { k + 25 ≤ count numbers.now }
     ensures { result ≡ header_at numbers.now k }
@@ -149,8 +136,8 @@ pub(crate) fn record(numbers: &[u64]) -> Record
         entry_count,
         entries,
         loop_count: u16_at(numbers, LOOP),
-        frame_period_num: u16_at(numbers, PERIOD_NUM),
-        frame_period_den: u16_at(numbers, PERIOD_DEN),
+        frame_period_num: u16_at(numbers, LOOP + 1),
+        frame_period_den: u16_at(numbers, LOOP + 2),
         headers: [alpha, color],
         data,
     }

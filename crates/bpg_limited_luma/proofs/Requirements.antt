@@ -7,11 +7,12 @@ use Prim.Native.Nat.{ℕ}
 use native.Mathlib.Omega.{arith}
 use lib.Dec.{eqb, leb}
 use lib.ListN.{length}
+use Rattle.std.specs.List.{list_all}
 use Rattle.bpg_codec.specs.Outcome.{ok, error, ◌>>=◌, guard}
 use Rattle.bpg_sample_rules.specs.Rules.{max_sample}
 use Rattle.bpg_sample_rules.proofs.Luma.{luma-monotone}
 use Rattle.bpg_sample_rules.proofs.Requirements.{luma}
-use Rattle.bpg_sample_check.specs.Judgement.{every, judged}
+use Rattle.bpg_sample_check.specs.Judgement.{judged}
 use Rattle.bpg_limited_luma.specs.Requirements.{LimitedLuma}
 
 no-32-of : (a b : Bool) (n : ℕ) → (guard a 31 0 >>= λ _. (guard b 33 0 >>= λ _. ok n)) ≢ error 32 0
@@ -21,7 +22,7 @@ no-32-of false b n e = let z : ◌≡◌ {A = ℕ} 31 32 = cc in omega arith
 
 no-32-in : (y out : List ℕ) → judged 8 (y ∷ []) (out ∷ []) ≢ error 32 0
 unfolding judged
-no-32-in y out = no-32-of (every (λ l. eqb (length l) (length y)) (y ∷ out ∷ [])) (every (every (λ s. leb s (max_sample 8))) (y ∷ [])) (length y)
+no-32-in y out = no-32-of (list_all (λ l. eqb (length l) (length y)) (y ∷ out ∷ [])) (list_all (list_all (λ s. leb s (max_sample 8))) (y ∷ [])) (length y)
 
 pub limited-luma : LimitedLuma
 unfolding max_sample

@@ -10,10 +10,7 @@ pub(crate) fn look_up(y: &[u16], table: &[u16], out: &mut [u16])
     requires out_len { (length out.old ≡ length y.now) × (largest y.now ≤ 255) }
     ensures { out.new ≡ map full_luma y.now }
 {
-    let mut i: usize = 0;
-    while i < y.len() {
-        let k = y[i] as usize;
-        out[i] = table[k];
-        i += 1;
+    for (i, sample) in out.iter_mut().enumerate() {
+        *sample = table[usize::from(y[i])];
     }
 }

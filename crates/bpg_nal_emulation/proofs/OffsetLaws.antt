@@ -5,6 +5,7 @@ use mathlib.Core.List.{List, [], ◌∷◌, ◌++◌, append_assoc, append-nil}
 use Prim.Native.Nat.{ℕ, ◌+◌, ◌-◌, ◌≤◌, ◌<◌}
 use native.Mathlib.Nat.{add-zero}
 use native.Mathlib.Omega.{arith}
+use mir.Val.{bool_byte}
 use lib.ListN.{length, take, drop, get_or, length-drop, length-append}
 use lib.Seq.{drop-drop, get_or-drop, take-add, take_all, length-take-le}
 use Rattle.bpg_codec.specs.Select.{select}
@@ -130,13 +131,18 @@ module _ (u : List ℕ) (i p : ℕ) (h : i ≤ length u) (e : p ≡ offset_from 
     pub un-count-last : length u ≤ p → total + marks ≡ i + length (unescape left) → length u - marks ≡ total
     un-count-last k c = let l = ap length (un-last k) in omega (arith, length-drop i u)
 
-    pub es-count-last : length u ≤ p → total ≡ i + marks + length (escape left) → (b : Bool) → b ≡ ends_open left
-        → ((b ≡ true → length u + marks + 1 ≡ total) × (b ≡ false → length u + marks ≡ total))
+    pub es-count-last : length u ≤ p → total ≡ i + marks + length (escape left) → (b : Bool) → b ≡ ends_open (take (length u - i) left)
+        → length u + marks + bool_byte b ≡ total
     es-count-last k c b f =
-        let l = ap length (es-last k) in (
-          λ t. let s = l ∙ ap length (ap (λ (x : List ℕ). left ++ x) (select-true _ _ (sym f ∙ t))) ∙ length-append left (3 ∷ []) in omega (arith, length-drop i u),
-          λ t. let s = l ∙ ap length (ap (λ (x : List ℕ). left ++ x) (select-false _ _ (sym f ∙ t))) ∙ length-append left [] in omega (arith, length-drop i u),
-        )
+        let l = ap length (es-last k) in
+        let g : b ≡ ends_open left = f ∙ rw whole in
+        by-test b
+        (λ t.
+        let s = l ∙ ap length (ap (λ (x : List ℕ). left ++ x) (select-true _ _ (sym g ∙ t))) ∙ length-append left (3 ∷ []) in
+        rw t (omega (arith, length-drop i u)))
+        (λ t.
+        let s = l ∙ ap length (ap (λ (x : List ℕ). left ++ x) (select-false _ _ (sym g ∙ t))) ∙ length-append left [] in
+        rw t (omega (arith, length-drop i u)))
 
     module _ (k : p < length u) where
       front_length : length (take (p + 2 - i) left) ≡ p + 2 - i

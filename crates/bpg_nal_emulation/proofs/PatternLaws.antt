@@ -77,13 +77,6 @@ module _ (d : List ℕ) (i : ℕ) where
   abbrev pub step_at : ℕ
   step_at = bool_byte (not (eqb (get_or d (i + 1) 0) 0))
 
-  pub step-most : step_at ≤ 1
-  step-most = most (eqb (get_or d (i + 1) 0) 0)
-    where
-      most : (zero : Bool) → bool_byte (not zero) ≤ 1
-      most true = omega arith
-      most false = omega arith
-
   none-second : (get_or d (i + 1) 0 ≡ 0 → ⊥) → starts_pattern (drop i d) ≡ false
   none-second k = by-second (drop i d) (λ e. k (sym (get_or-drop i d 1 0) ∙ e))
 
@@ -129,6 +122,31 @@ module _ (d : List ℕ) (i : ℕ) where
 abbrev pub Past : (d : List ℕ) (a b : ℕ) → Type 0
 Past d a b = (a ≤ b) × (pattern_from d a ≡ pattern_from d b)
 
--- three further, by the third byte, at k
-pub past-third : (d : List ℕ) (a i k j : ℕ) → Past d a i → 3 < get_or d k 0 → k < length d → k ≡ i + 2 → j ≡ i + 3 → Past d a j
-past-third d a i k j p h l e f = (omega arith, p.1 ∙ high-third d i (omega arith) (rw e at h) ∙ ap (pattern_from d) (sym f))
+-- three further, by a high third byte
+past-third : (d : List ℕ) (a i : ℕ) → Past d a i → i + 2 < length d → 3 < get_or d (i + 2) 0 → Past d a (i + 3)
+past-third d a i p h l = (omega arith, p.1 ∙ high-third d i h l)
+
+-- four third bytes, one after the other
+module _ (d : List ℕ) (a i : ℕ) (p : Past d a i) (h : i + 11 < length d) (b2 : 3 < get_or d (i + 2) 0) where
+  pub past-3 : Past d a (i + 3)
+  past-3 = past-third d a i p (omega arith) b2
+
+  module _ (b5 : 3 < get_or d (i + 5) 0) where
+    pub past-6 : Past d a (i + 6)
+    past-6 =
+        let e : i + 3 + 2 ≡ i + 5 = omega arith in
+        let f : i + 3 + 3 ≡ i + 6 = omega arith in
+        rw f at (past-third d a (i + 3) past-3 (omega arith) (rw e b5))
+
+    module _ (b8 : 3 < get_or d (i + 8) 0) where
+      pub past-9 : Past d a (i + 9)
+      past-9 =
+          let e : i + 6 + 2 ≡ i + 8 = omega arith in
+          let f : i + 6 + 3 ≡ i + 9 = omega arith in
+          rw f at (past-third d a (i + 6) past-6 (omega arith) (rw e b8))
+
+      pub past-12 : 3 < get_or d (i + 11) 0 → Past d a (i + 12)
+      past-12 b11 =
+          let e : i + 9 + 2 ≡ i + 11 = omega arith in
+          let f : i + 9 + 3 ≡ i + 12 = omega arith in
+          rw f at (past-third d a (i + 9) past-9 (omega arith) (rw e b11))

@@ -7,7 +7,7 @@ use bpg_bytes::BytePos;
 
 // From `from` on by threes, as long as the third byte is above 03: that rules out all patterns that begin at it or at the two bytes before
 // it. Four third bytes a turn, up to the last eleven bytes: with one jump back in twelve bytes, it matters little where the linker puts the
-// loop.
+// loop. A `while`, for that jump: a chain over the bytes or over pieces of them is no plainer.
 fn past_high(bytes: &[u8], from: usize) -> usize
     ensures lower_bound { from ≤ result }
     ensures from_value { offset_from starts_pattern bytes.now from ≡ offset_from starts_pattern bytes.now result }
@@ -37,7 +37,7 @@ fn past_high(bytes: &[u8], from: usize) -> usize
 }
 
 // Where the first pattern at or after `from` stands; the end of the bytes where there is none. One test and a computed step: where zeros are
-// many, a branch for each byte would often be mispredicted.
+// many, a branch for each byte would often be mispredicted. A `loop`, since it goes by that step.
 pub fn next(bytes: &[u8], from: BytePos) -> BytePos
     ensures { result.0 ≡ offset_from starts_pattern bytes.now from.0 }
 {
@@ -55,6 +55,6 @@ pub fn next(bytes: &[u8], from: BytePos) -> BytePos
         if (bytes[at + 2] < 4) & ((bytes[at + 1] == 0) & (bytes[at] == 0)) {
             return BytePos(at);
         }
-        i = at + 1 + (bytes[at + 1] != 0) as usize;
+        i = at + 1 + usize::from(bytes[at + 1] != 0);
     }
 }

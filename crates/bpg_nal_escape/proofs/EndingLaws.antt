@@ -1,50 +1,22 @@
 -- Bytes that end in 00 00, by their last two bytes.
-use mathlib.Core.Path.{◌≡◌, refl, sym, ap, ◌∙◌}
-use mathlib.Core.Bool.{false, ◌&&◌}
-use mathlib.Core.List.{List, [], ◌∷◌}
-use Prim.Native.Nat.{ℕ, suc, ◌+◌, ◌-◌, ◌≤◌, ◌<◌}
-use native.Mathlib.Omega.{arith}
-use lib.Dec.{eqb}
-use lib.ListN.{length, drop, get_or, length-drop}
-use lib.Seq.{get_or-drop}
-use borrow.Author.Tests.{eq-eqb, ne_eqb}
+use Rattle.std.proofs.Common.{◌≡◌, refl, sym, ap, ℕ, Bool, true, false, ◌&&◌, suc, ◌-◌, List, [], ◌∷◌, length, nat_eq, arith}
+use Rattle.std.specs.List.{ends_with}
+use borrow.Author.Tests.{ne_eqb}
+use Rattle.bpg_nal_units.proofs.Cases.{by_equal, and-false}
 use Rattle.bpg_nal_emulation.specs.Endings.{ends_open}
 
-ends-short : (l : List ℕ) → length l < 2 → ends_open l ≡ false
+zero-other : (a : ℕ) → nat_eq 0 a ≡ nat_eq a 0
+zero-other a = by_equal a 0 (λ e. rw e) (λ k. rw (ne_eqb a 0 k, ne_eqb 0 a (λ e. k (sym e))))
+
+and_true : (t : Bool) → (t && true) ≡ t
+and_true true = refl
+and_true false = refl
+
+pub ends-is : (l : List ℕ) → ends_with nat_eq l (0 ∷ 0 ∷ []) ≡ ends_open l
 unfolding ends_open
-ends-short [] h = refl
-ends-short (a ∷ []) h = refl
-ends-short (a ∷ b ∷ l) h = absurd (omega arith)
-
-ends-two : (l : List ℕ) → 2 ≤ length l → ends_open l ≡ (eqb (get_or l (length l - 2) 0) 0 && eqb (get_or l (length l - 1) 0) 0)
-unfolding ends_open
-ends-two [] h = absurd (omega arith)
-ends-two (a ∷ []) h = absurd (omega arith)
-ends-two (a ∷ b ∷ []) h = refl
-ends-two (a ∷ b ∷ c ∷ l) h = ends-two (b ∷ c ∷ l) (omega arith) ∙ longer a (b ∷ c ∷ l) (omega arith)
-  where
-    longer : (x : ℕ) (m : List ℕ) → 2 ≤ length m
-        → (eqb (get_or m (length m - 2) 0) 0 && eqb (get_or m (length m - 1) 0) 0)
-        ≡ (eqb (get_or (x ∷ m) (length (x ∷ m) - 2) 0) 0 && eqb (get_or (x ∷ m) (length (x ∷ m) - 1) 0) 0)
-    longer x m k =
-        let two : length (x ∷ m) - 2 ≡ suc (length m - 2) = omega arith in
-        let one : length (x ∷ m) - 1 ≡ suc (length m - 1) = omega arith in
-        rw (two, one)
-
-module _ (d : List ℕ) (i : ℕ) where
-  pub ends-few : length d < i + 2 → false ≡ ends_open (drop i d)
-  ends-few h = sym (ends-short (drop i d) (rw length-drop (omega arith)))
-
-  module _ (h : i + 2 ≤ length d) where
-    at-end : (k : ℕ) → k ≤ 2 → get_or (drop i d) (length (drop i d) - k) 0 ≡ get_or d (length d - k) 0
-    at-end k g =
-        get_or-drop i d (length (drop i d) - k) 0 ∙ ap (λ (j : ℕ). get_or d j 0) (let n = length-drop i d in omega arith)
-
-    ends_at : ends_open (drop i d) ≡ (eqb (get_or d (length d - 2) 0) 0 && eqb (get_or d (length d - 1) 0) 0)
-    ends_at = ends-two (drop i d) (rw length-drop (omega arith)) ∙ rw (at-end 2 (omega arith), at-end 1 (omega arith))
-
-    pub ends-other : (get_or d (length d - 2) 0 ≡ 0 → ⊥) → false ≡ ends_open (drop i d)
-    ends-other k = sym (ends_at ∙ rw (ne_eqb (get_or d (length d - 2) 0) 0 k))
-
-    pub ends_last : get_or d (length d - 2) 0 ≡ 0 → eqb (get_or d (length d - 1) 0) 0 ≡ ends_open (drop i d)
-    ends_last k = sym (ends_at ∙ rw (eq-eqb (get_or d (length d - 2) 0) 0 k))
+ends-is [] = refl
+ends-is (a ∷ []) = and-false (nat_eq 0 a) _ refl
+ends-is (a ∷ b ∷ []) = rw (zero-other a, zero-other b) (ap (λ (t : Bool). nat_eq a 0 && t) (and_true (nat_eq b 0)))
+ends-is (a ∷ b ∷ c ∷ l) =
+    let e : length (a ∷ b ∷ c ∷ l) - 2 ≡ suc (length (b ∷ c ∷ l) - 2) = omega arith in
+    rw e (ends-is (b ∷ c ∷ l))

@@ -6,28 +6,18 @@ ghost use Rattle.bpg_nal_escape.specs.Calls.{escape_answer, escape_buffer};
 ghost use Rattle.bpg_nal_emulation.specs.Endings.{ends_open};
 
 use bpg_bytes::{BytePos, buffer};
-use bpg_format::{Written, written_refused};
+use bpg_format::Written;
 use bpg_nal_emulation::pattern;
+use bpg_refusal::Reason;
 
-// Whether the bytes from `from` on end in 00 00.
-fn ends_open(bytes: &[u8], from: BytePos) -> bool
-    ensures { result ≡ ends_open (drop from.0 bytes.now) }
+// Whether the bytes end in 00 00.
+fn ends_open(bytes: &[u8]) -> bool
+    ensures { result ≡ ends_open bytes.now }
 {
-    let start = from.0;
-    let end = bytes.len();
-    if end < 2 {
-        return false;
-    }
-    if end - 2 < start {
-        return false;
-    }
-    if bytes[end - 2] != 0 {
-        return false;
-    }
-    bytes[end - 1] == 0
+    bytes.ends_with(&[0, 0])
 }
 
-// How many bytes there are with the emulation prevention bytes.
+// How many bytes there are with the emulation prevention bytes. A `loop`, since it goes from pattern to pattern.
 fn escaped_count(bytes: &[u8]) -> usize
     ensures { result ≡ length (escaped bytes.now) }
 {
@@ -36,10 +26,7 @@ fn escaped_count(bytes: &[u8]) -> usize
     loop {
         let at = pattern::next(bytes, BytePos(i)).0;
         if bytes.len() <= at {
-            if ends_open(bytes, BytePos(i)) {
-                return bytes.len() + marks + 1;
-            }
-            return bytes.len() + marks;
+            return bytes.len() + marks + usize::from(ends_open(&bytes[i..]));
         }
         marks += 1;
         i = at + 2;
@@ -66,8 +53,7 @@ fn put(bytes: &[u8], marks: usize, out: &mut [u8])
 {
     let mut filled = BytePos(0);
     let mut i: usize = 0;
-    let mut left = marks;
-    while 0 < left {
+    for _ in 0..marks {
         let at = pattern::next(bytes, BytePos(i)).0;
         if bytes.len() <= at {
             put_marked(out, filled, &bytes[i..]);
@@ -75,7 +61,6 @@ fn put(bytes: &[u8], marks: usize, out: &mut [u8])
         }
         filled = put_marked(out, filled, &bytes[i..at + 2]);
         i = at + 2;
-        left -= 1;
     }
     buffer::write(out, filled, &bytes[i..]);
 }
@@ -87,12 +72,8 @@ pub fn escape(bytes: &[u8], out: &mut [u8]) -> Written
 {
     let count = escaped_count(bytes);
     if out.len() < count {
-        return written_refused(20, 0);
+        return Written::refused(Reason::BufferTooSmall.at(BytePos(0)));
     }
     put(bytes, count - bytes.len(), out);
-    Written {
-        status: 0,
-        offset: 0,
-        count,
-    }
+    Written::of(count)
 }

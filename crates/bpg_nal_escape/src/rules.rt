@@ -5,14 +5,8 @@ ghost use Rattle.bpg_nal_escape.specs.Checks.{check_of};
 use bpg_bytes::{BytePos, byte_at};
 use bpg_nal_emulation::pattern;
 
-// Whether a unit keeps the rules; and if so, how many bytes it has without its emulation prevention bytes.
-#[derive(Clone, Copy)]
-pub struct Checked {
-    pub kept: bool,
-    pub count: usize,
-}
-
-pub(crate) fn check(unit: &[u8]) -> Checked
+// How many bytes a unit has without its emulation prevention bytes, if it keeps the rules. A `loop`, since it goes from pattern to pattern.
+pub(crate) fn check(unit: &[u8]) -> Option<usize>
     ensures { result ≡ check_of unit.now }
 {
     let mut marks: usize = 0;
@@ -20,22 +14,10 @@ pub(crate) fn check(unit: &[u8]) -> Checked
     loop {
         let at = pattern::next(unit, BytePos(i)).0;
         if unit.len() <= at {
-            return Checked {
-                kept: true,
-                count: unit.len() - marks,
-            };
+            return Some(unit.len() - marks);
         }
-        if unit[at + 2] != 3 {
-            return Checked {
-                kept: false,
-                count: 0,
-            };
-        }
-        if 3 < byte_at(unit, at + 3) {
-            return Checked {
-                kept: false,
-                count: 0,
-            };
+        if unit[at + 2] != 3 || 3 < byte_at(unit, at + 3) {
+            return None;
         }
         marks += 1;
         i = at + 3;

@@ -5,8 +5,9 @@ ghost use Rattle.bpg_nal_escape.specs.Calls.{unescape_answer, unescape_buffer};
 
 use crate::rules::check;
 use bpg_bytes::{BytePos, buffer};
-use bpg_format::{Written, written_refused};
+use bpg_format::Written;
 use bpg_nal_emulation::pattern;
+use bpg_refusal::Reason;
 
 // Writes the bytes of a unit that keeps the rules, without its emulation prevention bytes, to the front of `out`, which has room. After the
 // last of them, `marks` in all, nothing is looked for.
@@ -18,12 +19,10 @@ fn put(unit: &[u8], marks: usize, out: &mut [u8])
 {
     let mut filled = BytePos(0);
     let mut i: usize = 0;
-    let mut left = marks;
-    while 0 < left {
+    for _ in 0..marks {
         let at = pattern::next(unit, BytePos(i)).0;
         filled = buffer::write(out, filled, &unit[i..at + 2]);
         i = at + 3;
-        left -= 1;
     }
     buffer::write(out, filled, &unit[i..]);
 }
@@ -33,17 +32,12 @@ pub fn unescape(unit: &[u8], out: &mut [u8]) -> Written
     ensures value { result ≡ unescape_answer unit.now out.old }
     ensures out_after { out.new ≡ unescape_buffer unit.now out.old }
 {
-    let checked = check(unit);
-    if !checked.kept {
-        return written_refused(22, 0);
+    let Some(count) = check(unit) else {
+        return Written::refused(Reason::BadNalUnit.at(BytePos(0)));
+    };
+    if out.len() < count {
+        return Written::refused(Reason::BufferTooSmall.at(BytePos(0)));
     }
-    if out.len() < checked.count {
-        return written_refused(20, 0);
-    }
-    put(unit, unit.len() - checked.count, out);
-    Written {
-        status: 0,
-        offset: 0,
-        count: checked.count,
-    }
+    put(unit, unit.len() - count, out);
+    Written::of(count)
 }

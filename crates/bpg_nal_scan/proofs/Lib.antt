@@ -1,3 +1,4 @@
 -- Laws of the scan.
 pub mod FirstPattern
 pub mod ScanLaws
+pub mod EndedLaws

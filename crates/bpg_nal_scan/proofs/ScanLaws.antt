@@ -1,6 +1,7 @@
 -- The scan of a unit by offsets: where no pattern is left, and what the next one does.
 use mathlib.Core.Path.{◌≡◌, refl, sym, ap, ◌∙◌, subst}
 use mathlib.Core.Bool.{true, false}
+use Rattle.std.specs.Prelude.{Some, None}
 use mathlib.Core.List.{List, [], ◌∷◌, ◌++◌, append-nil}
 use Prim.Native.Nat.{ℕ, suc, ◌+◌, ◌≤◌, ◌<◌}
 use native.Mathlib.Omega.{arith}
@@ -13,13 +14,13 @@ use Rattle.bpg_codec.proofs.Select.{select-true, select-false}
 use Rattle.bpg_nal_units.specs.Search.{offset_of, offset_from}
 use Rattle.bpg_nal_units.specs.Units.{Nal, cut_at, starts_code, code_offset, trim_zeros, code_from, bytes_at}
 use Rattle.bpg_nal_units.specs.Endings.{ends_zero}
-use Rattle.bpg_nal_units.proofs.Cases.{by-test, by_equal, one_answer}
+use Rattle.bpg_nal_units.proofs.Cases.{by-test, by_equal}
 use Rattle.bpg_nal_units.proofs.SearchLaws.{search-end, search-most, search-found}
 use Rattle.bpg_nal_units.proofs.TrimLaws.{trim-none}
 use Rattle.bpg_nal_units.proofs.UnitLaws.{cut-at, first-unit}
-use Rattle.bpg_nal_scan.specs.declared.scan.Scan.{Scan}
+use Rattle.bpg_nal_units.specs.declared.cut.Cut.{Cut}
 use Rattle.bpg_nal_emulation.specs.Emulation.{starts_pattern, keeps_rules}
-use Rattle.bpg_nal_scan.specs.Scans.{not_zero, kept_scan, broken_scan, ended_at, scan_at}
+use Rattle.bpg_nal_scan.specs.Scans.{not_zero, kept_cut, ended_at, scan_at}
 use Rattle.bpg_nal_emulation.proofs.StretchLaws.{keeps-mark, keeps_high}
 use Rattle.bpg_nal_emulation.proofs.OffsetLaws.{offset-is, room, there, next-there, bytes}
 use Rattle.bpg_nal_emulation.proofs.RunLaws.{unit_of, Plain, code-after, code-past, code-run, code-zeros, unit-past, unit-run, unit-zeros, keeps-alone, keeps-after}
@@ -28,10 +29,10 @@ use Rattle.bpg_nal_scan.proofs.FirstPattern.{first-most, first-same, none-code, 
 -- ---- the answer
 
 module _ (d : List ℕ) (i : ℕ) where
-  scan-kept : (end code : ℕ) → end ≡ i + length (bytes_at d i) → code ≡ code_from d i → keeps_rules (bytes_at d i) ≡ true → kept_scan end code ≡ scan_at d i
+  scan-kept : (end code : ℕ) → end ≡ i + length (bytes_at d i) → code ≡ code_from d i → keeps_rules (bytes_at d i) ≡ true → kept_cut end code ≡ scan_at d i
   scan-kept end code e c k = rw (e, c) (sym (select-true _ _ k))
 
-  scan-broken : keeps_rules (bytes_at d i) ≡ false → broken_scan ≡ scan_at d i
+  scan-broken : keeps_rules (bytes_at d i) ≡ false → None ≡ scan_at d i
   scan-broken k = sym (select-false _ _ k)
 
 scan-same : (d : List ℕ) (i j : ℕ) → code_from d i ≡ code_from d j → i + length (bytes_at d i) ≡ j + length (bytes_at d j)
@@ -41,15 +42,14 @@ scan-same d i j c e k =
     (λ f. sym (scan-broken d i (k ∙ f)) ∙ scan-broken d j f)
 
 -- what an answer says
-module _ (d : List ℕ) (i : ℕ) (s : Scan) (e : s ≡ scan_at d i) where
-  pub says-broken : s.kept ≡ false → keeps_rules (bytes_at d i) ≡ false
-  says-broken f =
-      by-test (keeps_rules (bytes_at d i)) (λ t. one_answer (ap (λ (x : Scan). x.kept) (e ∙ sym (scan-kept d i _ _ refl refl t))) f) (λ g. g)
+module _ (d : List ℕ) (i : ℕ) where
+  pub says-broken : None ≡ scan_at d i → keeps_rules (bytes_at d i) ≡ false
+  says-broken e = by-test (keeps_rules (bytes_at d i)) (λ t. let f = e ∙ sym (scan-kept d i _ _ refl refl t) in cc) (λ g. g)
 
-  pub says-kept : s.kept ≡ true → (keeps_rules (bytes_at d i) ≡ true) × (s.cut ≡ cut_at d i)
-  says-kept t =
-      by-test (keeps_rules (bytes_at d i)) (λ k. (k, ap (λ (x : Scan). x.cut) (e ∙ sym (scan-kept d i _ _ refl refl k))))
-      (λ g. one_answer t (ap (λ (x : Scan). x.kept) (e ∙ sym (scan-broken d i g))))
+  pub says-kept : (x : Cut) → Some x ≡ scan_at d i → (keeps_rules (bytes_at d i) ≡ true) × (x ≡ cut_at d i)
+  says-kept x e =
+      by-test (keeps_rules (bytes_at d i)) (λ k. (k, (let f = e ∙ sym (scan-kept d i _ _ refl refl k) in cc)))
+      (λ g. let f = e ∙ sym (scan-broken d i g) in cc)
 
 -- ---- by offsets: no pattern is left from i on
 
@@ -70,13 +70,19 @@ module _ (d : List ℕ) (i p : ℕ) (e : p ≡ offset_from starts_pattern d i) (
       (λ h. rw (drop_of_length-le (take (code_from d i) d) {i = i} (rw length-take (omega arith)), trim-none)
       (keeps-alone [] [] (record { none = omega arith })))
 
-  pub scan-last : (end : ℕ) → end ≡ i + length (trim_zeros (drop i (take (length d) d))) → kept_scan end (length d) ≡ scan_at d i
+  pub scan-last : (end : ℕ) → end ≡ i + length (trim_zeros (drop i (take (length d) d))) → kept_cut end (length d) ≡ scan_at d i
   scan-last end g =
       scan-kept d i end (length d) (g ∙ ap (λ (c : ℕ). i + length (trim_zeros (drop i (take c d)))) (sym last_code)) (sym last_code) last-kept
 
 -- ---- one stands at p
 
-module _ (d : List ℕ) (i p : ℕ) (h : i ≤ length d) (e : p ≡ offset_from starts_pattern d i) (k : p < length d) where
+module _ (d : List ℕ) (i p : ℕ) (e : p ≡ offset_from starts_pattern d i) (k : p < length d) where
+  h : i ≤ length d
+  h = omega arith
+
+  pub room-there : (i ≤ p) × (p + 3 ≤ length d)
+  room-there = room d i p h e k
+
   abbrev left : List ℕ
   left = drop i d
 
@@ -106,22 +112,22 @@ module _ (d : List ℕ) (i p : ℕ) (h : i ≤ length d) (e : p ≡ offset_from 
     code-there = cut-at d i h ∙ ap (λ (x : List ℕ). i + code_offset x) whole ∙ (let c = code-after before r clear in let s = size in omega arith)
 
     -- the unit ends before it
-    ends_there : unit_of (before ++ r) ≡ before → kept_scan p (p + code_offset r) ≡ scan_at d i
+    ends_there : unit_of (before ++ r) ≡ before → kept_cut p (p + code_offset r) ≡ scan_at d i
     ends_there g =
         let u = unit ∙ ap unit_of whole ∙ g in
         scan-kept d i p (p + code_offset r) (sym (ap (λ (x : List ℕ). i + length x) u ∙ size)) (sym code-there) (ap keeps_rules u ∙ keeps-alone before r clear)
 
   -- zeros up to the end
-  scan-zeros : (z : ℕ) → drop p d ≡ replicate z 0 → kept_scan p (p + z) ≡ scan_at d i
+  scan-zeros : (z : ℕ) → drop p d ≡ replicate z 0 → kept_cut p (p + z) ≡ scan_at d i
   scan-zeros z f = rw (code-zeros z) at (ends_there (replicate z 0) f (unit-zeros before ends z (clear (replicate z 0) f)))
 
   -- zeros up to a start code
-  scan-run : (z : ℕ) (m : List ℕ) → drop p d ≡ 0 ∷ 0 ∷ (replicate z 0 ++ (1 ∷ m)) → kept_scan p (p + z) ≡ scan_at d i
+  scan-run : (z : ℕ) (m : List ℕ) → drop p d ≡ 0 ∷ 0 ∷ (replicate z 0 ++ (1 ∷ m)) → kept_cut p (p + z) ≡ scan_at d i
   scan-run z m f =
       rw (code-run z m) at (ends_there (0 ∷ 0 ∷ (replicate z 0 ++ (1 ∷ m))) f (unit-run before ends z m (clear _ f)))
 
   -- zeros, and a byte that may not come after them
-  scan-other : (z x : ℕ) (m : List ℕ) → drop p d ≡ 0 ∷ 0 ∷ (replicate z 0 ++ (x ∷ m)) → 2 ≤ x → (get_or d (p + 2) 0 ≡ 3 → ⊥) → broken_scan ≡ scan_at d i
+  scan-other : (z x : ℕ) (m : List ℕ) → drop p d ≡ 0 ∷ 0 ∷ (replicate z 0 ++ (x ∷ m)) → 2 ≤ x → (get_or d (p + 2) 0 ≡ 3 → ⊥) → None ≡ scan_at d i
   scan-other z x m f g t =
       let v = replicate z 0 ++ (x ∷ unit_of m) in
       scan-broken d i
@@ -153,7 +159,7 @@ module _ (d : List ℕ) (i p : ℕ) (h : i ≤ length d) (e : p ≡ offset_from 
     ended-last g =
         let none : drop past d ≡ [] = drop_of_length-le d {i = past} g in
         let code : past ≡ p + suc (suc zeros) = (let q = past_is in omega arith) in
-        select-true _ _ (le-leb _ _ g) ∙ ap (kept_scan p) code
+        select-true _ _ (le-leb _ _ g) ∙ ap (kept_cut p) code
         ∙ scan-zeros (suc (suc zeros)) (run ∙ ap (λ (x : List ℕ). 0 ∷ 0 ∷ x) (ap (λ (x : List ℕ). replicate zeros 0 ++ x) none ∙ append-nil _))
 
     module _ (g : past < length d) where
@@ -174,7 +180,7 @@ module _ (d : List ℕ) (i p : ℕ) (h : i ≤ length d) (e : p ≡ offset_from 
           let f = run ∙ ap (λ (x : List ℕ). 0 ∷ 0 ∷ (replicate zeros 0 ++ x)) more in
           select-false _ _ (lt-leb _ _ g)
           ∙ by_equal byte 1
-          (λ o. select-true _ _ (eq-eqb _ _ o) ∙ ap (kept_scan p) (let q = past_is in omega arith)
+          (λ o. select-true _ _ (eq-eqb _ _ o) ∙ ap (kept_cut p) (let q = past_is in omega arith)
           ∙ scan-run zeros (drop (past + 1) d) (f ∙ ap (λ (x : ℕ). 0 ∷ 0 ∷ (replicate zeros 0 ++ (x ∷ drop (past + 1) d))) o))
           (λ o. select-false _ _ (ne_eqb _ _ o) ∙ scan-other zeros byte (drop (past + 1) d) f (let n = not-zero in omega arith) t)
 
@@ -195,7 +201,7 @@ module _ (d : List ℕ) (i p : ℕ) (h : i ≤ length d) (e : p ≡ offset_from 
     over-kept : keeps_rules (bytes_at d i) ≡ keeps_rules (0 ∷ 0 ∷ 3 ∷ unit_of rest)
     over-kept = ap keeps_rules over ∙ keeps-after before (3 ∷ rest) (3 ∷ unit_of rest) (clear _ marked)
 
-    pub scan-high : 3 < get_or d (p + 3) 0 → broken_scan ≡ scan_at d i
+    pub scan-high : 3 < get_or d (p + 3) 0 → None ≡ scan_at d i
     scan-high g = scan-broken d i (over-kept ∙ keeps_high (unit_of rest) (rw (first-same rest (λ z. omega (arith, next-there d i p h e k)), next-there d i p h e k) g))
 
     pub scan-on : get_or d (p + 3) 0 ≤ 3 → scan_at d i ≡ scan_at d (p + 3)

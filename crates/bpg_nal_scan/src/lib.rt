@@ -3,4 +3,4 @@
 
 mod scan;
 
-pub use scan::{Scan, scan_at};
+pub use scan::scan_at;

@@ -1,88 +1,57 @@
 // A unit cut off and judged by the emulation rules in one go over its bytes: start codes are patterns too.
-ghost use Rattle.std.specs.Prelude.{◌≡◌, ◌+◌, ◌≤◌, length};
-ghost use Rattle.bpg_nal_units.specs.Search.{offset_from};
-ghost use Rattle.bpg_nal_scan.specs.Scans.{not_zero, kept_scan, broken_scan, ended_at, scan_at};
+ghost use Rattle.std.specs.Prelude.{◌≡◌, ◌==◌, ◌+◌, ◌<◌, ◌≤◌, not, position, length, MatchOption};
+ghost use Rattle.bpg_nal_scan.specs.Scans.{ended_at, scan_at};
 
 use bpg_bytes::{BytePos, byte_at};
 use bpg_nal_emulation::pattern;
 use bpg_nal_units::{Cut, trimmed};
 
-// Whether a unit keeps the rules; and if so, where it ends and where the start code after it stands.
-#[derive(Clone, Copy)]
-pub struct Scan {
-    pub kept: bool,
-    pub cut: Cut,
-}
-
-fn kept(end: BytePos, code: BytePos) -> Scan
-    ensures { result ≡ kept_scan end.0 code.0 }
+// Where the first byte stands that is not 0.
+fn first_nonzero(bytes: &[u8]) -> Option<usize>
+    ensures value { result ≡ position (λ b. not (b == 0)) bytes.now }
+    ensures within { MatchOption result (Unit {0}) (λ k. k < length bytes.now) }
 {
-    Scan {
-        kept: true,
-        cut: Cut { end, code },
-    }
-}
-
-fn broken() -> Scan
-    ensures { result ≡ broken_scan }
-{
-    Scan {
-        kept: false,
-        cut: Cut {
-            end: BytePos(0),
-            code: BytePos(0),
-        },
-    }
-}
-
-// Where the first byte at or after `from` stands that is not 0; the end of the region where there is none.
-fn zeros_end(region: &[u8], from: BytePos) -> BytePos
-    ensures { result.0 ≡ offset_from not_zero region.now from.0 }
-{
-    let end = region.len();
-    let mut i = from.0;
-    while i < end {
-        if region[i] != 0 {
-            return BytePos(i);
-        }
-        i += 1;
-    }
-    BytePos(end)
+    bytes.iter().position(|b| *b != 0)
 }
 
 // What two zero bytes at `at` mean, with no 03 after them: the unit ends there, at a start code or the end of the region with zero
 // bytes before it; or a rule is broken.
-fn ended(region: &[u8], at: BytePos) -> Scan
+fn ended(region: &[u8], at: BytePos) -> Option<Cut>
     requires { at.0 + 2 ≤ length region.now }
     ensures { result ≡ ended_at region.now at.0 }
 {
-    let past = zeros_end(region, BytePos(at.0 + 2)).0;
-    if region.len() <= past {
-        return kept(at, BytePos(past));
-    }
-    if region[past] != 1 {
-        return broken();
-    }
-    kept(at, BytePos(past - 2))
+    let rest = &region[at.0 + 2..];
+    let code = match first_nonzero(rest) {
+        None => region.len(),
+        Some(zeros) if rest[zeros] == 1 => at.0 + zeros,
+        Some(_) => return None,
+    };
+    Some(Cut {
+        end: at,
+        code: BytePos(code),
+    })
 }
 
-// The unit that starts at `start`.
-pub fn scan_at(region: &[u8], start: BytePos) -> Scan
+// The unit that starts at `start`, if it keeps the rules. A `loop`, since it goes from pattern to pattern and not by bytes.
+pub fn scan_at(region: &[u8], start: BytePos) -> Option<Cut>
     ensures { result ≡ scan_at region.now start.0 }
 {
     let end = region.len();
-    let mut i = start.0;
+    let mut from = start;
     loop {
-        let at = pattern::next(region, BytePos(i)).0;
+        let at = pattern::next(region, from).0;
         if end <= at {
-            return kept(trimmed(region, BytePos(i), BytePos(end)), BytePos(end));
+            return Some(Cut {
+                end: trimmed(region, from, BytePos(end)),
+                code: BytePos(end),
+            });
         }
         if region[at + 2] != 3 {
             return ended(region, BytePos(at));
         }
         if 3 < byte_at(region, at + 3) {
-            return broken();
+            return None;
         }
-        i = at + 3;
+        from = BytePos(at + 3);
     }
 }

@@ -47,7 +47,7 @@ module _ (test : List ℕ → Bool) where
 
   -- ---- by offsets
 
-  pub from_end : (d : List ℕ) (i : ℕ) → length d ≤ i → length d ≡ offset_from test d i
+  from_end : (d : List ℕ) (i : ℕ) → length d ≤ i → length d ≡ offset_from test d i
   from_end d i h = omega arith
 
   module _ (d : List ℕ) (i : ℕ) (h : i < length d) where

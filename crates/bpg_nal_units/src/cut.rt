@@ -4,7 +4,6 @@ ghost use Rattle.bpg_nal_units.specs.Units.{trim_zeros, cut_at};
 
 use crate::start_code;
 use bpg_bytes::BytePos;
-use bpg_bytes::arithmetic::least;
 
 // A unit is the bytes from its start up to `end`; zero bytes come between it and the start code, which stands at `code`. After the
 // last unit `code` is the end of the region.
@@ -18,13 +17,10 @@ pub struct Cut {
 pub fn trimmed(region: &[u8], start: BytePos, code: BytePos) -> BytePos
     ensures { result.0 ≡ start.0 + length (trim_zeros (drop start.0 (take code.0 region.now))) }
 {
-    let first = start.0;
-    let mut end = least(code.0, region.len());
-    while first < end {
-        if region[end - 1] != 0 {
-            return BytePos(end);
+    for last in (start.0..code.0.min(region.len())).rev() {
+        if region[last] != 0 {
+            return BytePos(last + 1);
         }
-        end -= 1;
     }
     start
 }

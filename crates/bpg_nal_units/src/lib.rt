@@ -6,4 +6,4 @@ mod nal_header;
 mod start_code;
 
 pub use cut::{Cut, cut_at, trimmed};
-pub use nal_header::{NalHeader, header};
+pub use nal_header::NalHeader;

@@ -10,13 +10,16 @@ pub struct NalHeader {
     pub nuh_temporal_id_plus1: u8,
 }
 
-pub fn header(first: u8, second: u8) -> NalHeader
-    ensures { result ≡ header_of first second }
-{
-    NalHeader {
-        forbidden_zero_bit: 128 <= first,
-        nal_unit_type: first / 2 % 64,
-        nuh_layer_id: first % 2 * 32 + second / 8,
-        nuh_temporal_id_plus1: second % 8,
+impl NalHeader {
+    // The header that the first two bytes of a unit are.
+    pub fn of(first: u8, second: u8) -> NalHeader
+        ensures { result ≡ header_of first second }
+    {
+        NalHeader {
+            forbidden_zero_bit: 128 <= first,
+            nal_unit_type: first / 2 % 64,
+            nuh_layer_id: first % 2 * 32 + second / 8,
+            nuh_temporal_id_plus1: second % 8,
+        }
     }
 }

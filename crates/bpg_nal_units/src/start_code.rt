@@ -5,7 +5,8 @@ ghost use Rattle.bpg_nal_units.specs.Units.{code_from};
 use bpg_bytes::BytePos;
 
 // Where the first start code at or after `from` stands; the region's end where there is none.
-// A third byte that is not 0, and does not end a start code, rules out all that begin at it or at the two bytes before it.
+// A third byte that is not 0, and does not end a start code, rules out all that begin at it or at the two bytes before it. The loop
+// jumps by 3 or 1 as that byte says, so it is a `while`: a `for` would look at each byte.
 pub(crate) fn next(region: &[u8], from: BytePos) -> BytePos
     ensures { result.0 ≡ code_from region.now from.0 }
 {

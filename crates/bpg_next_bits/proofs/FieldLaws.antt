@@ -13,9 +13,8 @@ use Rattle.bpg_codec.specs.Outcome.{Outcome, located}
 use Rattle.bpg_codec.specs.Codec.{decode_at}
 use Rattle.bpg_codec.specs.Bits.{number, bits}
 use Rattle.bpg_codec.proofs.Bits.{number-bits}
-use Rattle.bpg_bytes.specs.Positions.{bit_pos}
-use Rattle.bpg_bits.specs.declared.bits.BitNumber.TheVariants.{Value}
-use Rattle.bpg_bits.specs.Answers.{bit_answer}
+use Rattle.std.specs.Prelude.{Some}
+use Rattle.bpg_bits.specs.Answers.{bit_number, bit_answer}
 use Rattle.bpg_bits.specs.BitNumbers.{region_bits, unsigned, prefix_zeros, exp_golomb_bits, exp_golomb}
 use Rattle.bpg_bits.proofs.BitNumberLaws.{Top, top, top_unique, exp_golomb-one-field, exp_golomb-lawful, unsigned-found}
 use Rattle.bpg_next_bits.specs.NextBits.{InWord}
@@ -69,7 +68,7 @@ module _ (region : List ℕ) (p w n : ℕ) (small : w < 2 ^ 64) (i : InWord regi
   l = region_bits region
 
   -- s bits
-  pub bits-found : (s : ℕ) → s ≤ n → Value (w / 2 ^ (64 - s)) (bit_pos (p + s)) ≡ bit_answer (decode_at l (unsigned s) 0 p)
+  pub bits-found : (s : ℕ) → s ≤ n → Some (bit_number (w / 2 ^ (64 - s)) (p + s)) ≡ bit_answer (decode_at l (unsigned s) 0 p)
   bits-found s h =
       let e : s + (64 - s) ≡ 64 = omega (arith, i.few) in
       let v : ℕ = w / 2 ^ (64 - s) in
@@ -78,7 +77,7 @@ module _ (region : List ℕ) (p w n : ℕ) (small : w < 2 ^ 64) (i : InWord regi
 
   -- ue(v)
   pub code-found : 2 * count_leading_zeros 64 w + 1 ≤ n → (few : count_leading_zeros 64 w ≤ 31) (v : ℕ) → v + 1 ≡ plus_one w small few
-      → Value v (bit_pos (p + (2 * count_leading_zeros 64 w + 1))) ≡ bit_answer (decode_at l exp_golomb 0 p)
+      → Some (bit_number v (p + (2 * count_leading_zeros 64 w + 1))) ≡ bit_answer (decode_at l exp_golomb 0 p)
   code-found h few v e =
       let s : ℕ = 2 * count_leading_zeros 64 w + 1 in
       let m = drop p l in

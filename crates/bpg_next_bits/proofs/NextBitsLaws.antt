@@ -1,5 +1,5 @@
 -- The next bits, and those that are left after the first of them.
-use mathlib.Core.Path.{◌≡◌, refl, sym, ap, ◌∙◌, subst}
+use mathlib.Core.Path.{◌≡◌, refl, sym, ap, ◌∙◌}
 use mathlib.Core.Bool.{Bool}
 use mathlib.Core.List.{List, ◌++◌}
 use Prim.Native.Nat.{ℕ, zero, suc, ◌+◌, ◌-◌, ◌*◌, ◌/◌, ◌%◌, ◌^◌, ◌≤◌, ◌<◌}
@@ -93,14 +93,8 @@ module _ (region : List ℕ) (p w n : ℕ) (i : InWord region p w n) where
       ∙ moved w s (n - s) (omega (arith, i.few))
       ∙ sym (high_bits ((w * 2 ^ s) % 2 ^ 64) (n - s) (omega (arith, i.few)))
 
-  in-word-left : (s : ℕ) → InWord region (p + s) ((w * 2 ^ (s % 64)) % 2 ^ 64) (n - s)
+  pub in-word-left : (s : ℕ) → InWord region (p + s) ((w * 2 ^ (s % 64)) % 2 ^ 64) (n - s)
   in-word-left s =
       either_way n s
       (λ h. let z : n - s ≡ 0 = omega arith in rw z (in-word-none region (p + s) _))
       (λ h. let m : s % 64 ≡ s = omega (arith, i.few) in record { few = omega (arith, i.few); there = omega (arith, i.there); same = rw m (same_left s h) })
-
-  -- at a later position q, where `left` of them are left
-  pub in-word-after : (q left : ℕ) → p ≤ q → left ≡ n - (q - p) → InWord region q ((w * 2 ^ ((q - p) % 64)) % 2 ^ 64) left
-  in-word-after q left h e =
-      let f : p + (q - p) ≡ q = omega arith in
-      rw e (subst (λ (m : ℕ). InWord region m ((w * 2 ^ ((q - p) % 64)) % 2 ^ 64) (n - (q - p))) f (in-word-left (q - p)))

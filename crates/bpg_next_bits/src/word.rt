@@ -4,7 +4,6 @@ ghost use Rattle.bpg_codec.specs.Bits.{bits};
 ghost use Rattle.bpg_next_bits.specs.NextBits.{word_bits};
 
 use bpg_bytes::BytePos;
-use bpg_bytes::arithmetic::{least, wide};
 
 // The 64 bits from `at` on as a number; zeros past the region.
 pub(crate) fn read(region: &[u8], at: BytePos) -> u64
@@ -12,14 +11,10 @@ pub(crate) fn read(region: &[u8], at: BytePos) -> u64
     ensures { bits 64 result ≡ word_bits region.now at.0 }
 {
     let start = at.0;
-    let end = least(start + 8, region.len());
+    let end = (start + 8).min(region.len());
     let mut word: u64 = 0;
-    let mut free: u32 = 64;
-    let mut next = start;
-    while next < end {
-        free -= 8;
-        word += wide(region[next]) << free;
-        next += 1;
+    for next in start..end {
+        word += u64::from(region[next]) << (56 - 8 * (next - start));
     }
     word
 }

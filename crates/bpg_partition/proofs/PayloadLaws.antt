@@ -8,7 +8,11 @@ use Rattle.bpg_codec.specs.Outcome.{ok}
 use Rattle.bpg_format.specs.declared.record.Entry.{Entry}
 use Rattle.bpg_format.specs.Content.{Content}
 use Rattle.bpg_format.specs.Read.{read_content}
-use Rattle.bpg_read_entries.specs.declared.entry.EntryReading.{EntryReading}
+use Rattle.std.specs.Prelude.{Result, Ok}
+use Rattle.bpg_bytes.specs.declared.position.BytePos.{BytePos}
+use Rattle.bpg_bytes.specs.declared.position.Located.{Located}
+use Rattle.bpg_refusal.specs.declared.Refusal.{Refusal}
+use Rattle.bpg_refusal.specs.Outcomes.{outcome}
 use Rattle.bpg_read_entries.specs.Entries.{entry_head_answer, entry_in}
 use Rattle.bpg_read_survey.proofs.Walking.{Walking, passed, passed-next, walks, walked, length-small}
 use Rattle.bpg_partition.specs.Partitions.{payload_count, payload_bytes}
@@ -33,13 +37,13 @@ module _ {file : List ℕ} {count end p total next k : ℕ} (v : Counting file c
   abbrev w : Walking file count end p next k
   w = v.walking
 
-  pub next-counted : (h : k < count) (t : EntryReading) → t ≡ entry_head_answer next (entry_in (take end file) next)
-      → Counting file count end p (total + t.entry.payload.length) t.next.0 (k + 1)
-  next-counted h t e =
+  pub next-counted : (h : k < count) (r : Result (Located Entry BytePos) Refusal) → outcome (λ y. y) r ≡ entry_head_answer next (entry_in (take end file) next)
+      → (t : Located Entry BytePos) → r ≡ Ok t → Counting file count end p (total + t.value.payload.length) t.next.0 (k + 1)
+  next-counted h r read t is =
       record {
-        walking = walks w h t e;
-        sum = omega (arith, v.sum, one_more (passed w) t.entry, ap payload_bytes (passed-next w h t e));
-        most = omega (arith, v.most, length-small w h t e);
+        walking = walks w h r read t is;
+        sum = omega (arith, v.sum, one_more (passed w) t.value, ap payload_bytes (passed-next w h r read t is));
+        most = omega (arith, v.most, length-small w h r read t is);
       }
 
   -- all are counted

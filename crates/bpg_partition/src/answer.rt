@@ -1,9 +1,13 @@
 // What the call answers.
 ghost use Rattle.std.specs.Prelude.{◌≡◌};
+ghost use Rattle.bpg_refusal.specs.Numbers.{reason_number};
 ghost use Rattle.bpg_partition.specs.Partitions.{refused_partition};
 
+use bpg_refusal::Refusal;
+
 // Status and offset as `read` answers them, and five counts of bytes, which add up to the file's length; zeros where the file is refused.
-#[derive(Clone, Copy)]
+// No result: C is handed the same fields, and the theorem `NoPartition` says that a refusal leaves zeros in them.
+#[derive(Clone, Copy, Default)]
 pub struct Partition {
     pub status: u8,
     pub offset: usize,
@@ -17,16 +21,14 @@ pub struct Partition {
     pub data: usize,
 }
 
-pub(crate) fn refused(status: u8, offset: usize) -> Partition
-    ensures { result ≡ refused_partition status offset }
-{
-    Partition {
-        status,
-        offset,
-        head: 0,
-        entry_heads: 0,
-        payloads: 0,
-        headers: 0,
-        data: 0,
+impl Partition {
+    pub(crate) fn refused(refusal: Refusal) -> Partition
+        ensures { result ≡ refused_partition (reason_number refusal.reason) refusal.offset.0 }
+    {
+        Partition {
+            status: refusal.reason.number(),
+            offset: refusal.offset.0,
+            ..Partition::default()
+        }
     }
 }

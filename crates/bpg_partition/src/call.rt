@@ -2,7 +2,7 @@
 ghost use Rattle.std.specs.Prelude.{◌≡◌};
 ghost use Rattle.bpg_partition.specs.Partitions.{partition_answer};
 
-use crate::answer::{Partition, refused};
+use crate::answer::Partition;
 use bpg_read_entries::entry;
 use bpg_read_survey::survey;
 
@@ -10,25 +10,21 @@ use bpg_read_survey::survey;
 pub fn partition(file: &[u8]) -> Partition
     ensures { result ≡ partition_answer file.now }
 {
-    let none = [0u64; 1];
-    let found = survey(file, &none, false);
+    let found = match survey(file, None) {
+        Ok(found) => found,
+        Err(refusal) => return Partition::refused(refusal),
+    };
     let head = found.head;
     let rest = found.rest;
-    if rest.status != 0 {
-        return refused(rest.status, rest.offset.0);
-    }
-    let count = rest.block.entry_count as usize;
     let block = head.extension_length as usize;
     let block_end = head.end.0 + block;
-    let data = rest.both.next.0;
+    let data = rest.headers.next.0;
     let mut payloads: usize = 0;
     let mut next = head.end;
-    let mut k: usize = 0;
-    while k < count {
-        let step = entry::read_checked(&file[0..block_end], next);
-        payloads += step.entry.payload.length as usize;
+    for _ in 0..rest.block.entry_count {
+        let step = entry::read_checked(&file[..block_end], next).unwrap();
+        payloads += step.value.payload.length as usize;
         next = step.next;
-        k += 1;
     }
     Partition {
         status: 0,

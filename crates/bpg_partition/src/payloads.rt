@@ -1,23 +1,26 @@
 // The payloads of a record, counted together. (`partition` makes no record: it adds them up while it reads the entries.)
-ghost use Rattle.std.specs.Prelude.{◌≡◌};
+ghost use Rattle.std.specs.Prelude.{◌≡◌, ◌≤◌, length, sum_by};
+ghost use Rattle.bpg_format.specs.Limits.{max_entries};
 ghost use Rattle.bpg_format.specs.Records.{used_entries};
 ghost use Rattle.bpg_partition.specs.Partitions.{payload_bytes};
 
-use bpg_bytes::arithmetic::least;
-use bpg_format::{MAX_ENTRIES, Record};
+use bpg_format::{Entry, MAX_ENTRIES, Record};
 
-// The bytes of all payloads of the entries in use.
+// The bytes of all payloads of the entries in use. By value: lent, the record does not show the length of its array to the proof.
 pub(crate) fn payload_bytes(record: Record) -> usize
     ensures { result ≡ payload_bytes (used_entries «record») }
 {
-    let entries = record.entries;
-    let count = least(record.entry_count as usize, MAX_ENTRIES);
-    let mut total: usize = 0;
-    let mut k: usize = 0;
-    while k < count {
-        let entry = entries[k];
-        total += entry.payload.length as usize;
-        k += 1;
-    }
-    total
+    let used = (record.entry_count as usize).min(MAX_ENTRIES);
+    total(&record.entries[..used])
+}
+
+// The bound lets the sum fit.
+fn total(entries: &[Entry]) -> usize
+    requires { length entries.now ≤ max_entries }
+    ensures { result ≡ sum_by (λ entry. entry.payload.length) entries.now }
+{
+    entries
+        .iter()
+        .map(|entry| entry.payload.length as usize)
+        .sum()
 }

@@ -20,7 +20,7 @@ use Rattle.bpg_format.specs.Records.{record_of, bytes_in, used_entries, answer_o
 use Rattle.bpg_format.specs.Parts.{entry_of, payload_of, data_of, range_end}
 use Rattle.bpg_format.proofs.ReadingLaws.{read_is}
 use Rattle.bpg_format.proofs.RangeLaws.{ranges-in-order, data-last, payload-part, parts-length}
-use Rattle.bpg_parts.specs.declared.parts.EntryAt.{EntryAt}
+use Rattle.std.specs.Prelude.{Option, Some, None, unwrap_or}
 use Rattle.bpg_parts.specs.Entries.{entry_answer}
 
 -- ---- an entry by its index
@@ -33,29 +33,24 @@ module _ (f : List ℕ) (k : ℕ) where
   unfolding entry_of
   no-entry h = get_or-eq_default (used_entries (read_file f).«record») zero_entry (rw length-take (omega arith))
 
-  pub entry_absent : (r : Reading) → r ≡ read_file f → r.«record».entry_count ≤ k → EntryAt.Absent ≡ entry_answer f k
-  entry_absent r e h = sym (select-false (EntryAt.Found (entry_of f k)) EntryAt.Absent (le-ltb k count (subst (λ (x : Reading). x.«record».entry_count ≤ k) e h)))
+  pub entry_absent : (r : Reading) → r ≡ read_file f → r.«record».entry_count ≤ k → None ≡ entry_answer f k
+  entry_absent r e h = sym (select-false (Some (entry_of f k)) None (le-ltb k count (subst (λ (x : Reading). x.«record».entry_count ≤ k) e h)))
 
   pub entry_found : (r : Reading) → r ≡ read_file f → k < r.«record».entry_count
-      → EntryAt.Found (get_or r.«record».entries k zero_entry) ≡ entry_answer f k
+      → Some (get_or r.«record».entries k zero_entry) ≡ entry_answer f k
   unfolding entry_of
   entry_found r e h =
       let n : k < count = subst (λ (x : Reading). k < x.«record».entry_count) e h in
-      ap (λ (x : Reading). EntryAt.Found (get_or x.«record».entries k zero_entry)) e
-      ∙ ap EntryAt.Found (sym (get_or-take count (read_file f).«record».entries k zero_entry n))
-      ∙ sym (select-true (EntryAt.Found (entry_of f k)) EntryAt.Absent (lt-ltb k count n))
+      ap (λ (x : Reading). Some (get_or x.«record».entries k zero_entry)) e
+      ∙ ap Some (sym (get_or-take count (read_file f).«record».entries k zero_entry n))
+      ∙ sym (select-true (Some (entry_of f k)) None (lt-ltb k count n))
 
   -- the entry, or the zero entry where there is none
-  abbrev entry_in : EntryAt → Entry
-  entry_in (EntryAt.Found e) = e
-  entry_in EntryAt.Absent = zero_entry
-
-  pub entry_in-range : (x : EntryAt) → x ≡ entry_answer f k → entry_in x ≡ entry_of f k
-  entry_in-range x e =
-      ap entry_in e
-      ∙ either_way count k
-      (λ h. ap entry_in (select-false (EntryAt.Found (entry_of f k)) EntryAt.Absent (le-ltb k count h)) ∙ sym (no-entry h))
-      (λ h. ap entry_in (select-true (EntryAt.Found (entry_of f k)) EntryAt.Absent (lt-ltb k count h)))
+  pub entry_in-range : unwrap_or (entry_answer f k) zero_entry ≡ entry_of f k
+  entry_in-range =
+      either_way count k
+      (λ h. ap (λ (o : Option Entry). unwrap_or o zero_entry) (select-false (Some (entry_of f k)) None (le-ltb k count h)) ∙ sym (no-entry h))
+      (λ h. ap (λ (o : Option Entry). unwrap_or o zero_entry) (select-true (Some (entry_of f k)) None (lt-ltb k count h)))
 
 -- ---- within the file
 

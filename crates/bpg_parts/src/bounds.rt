@@ -12,18 +12,16 @@ pub struct BlockBounds {
     pub end: BytePos,
 }
 
-// Of a refused file both are 0; of a file without entries both are where the first would stand. The survey says it: no record is made.
+// No option: the cursor's theorem names the bounds of a refused file too. Of a refused file both are 0; of a file without entries both are where the first would stand. The survey says it: no record is made.
 pub fn block_bounds(file: &[u8]) -> BlockBounds
     ensures { result ≡ block_bounds file.now }
 {
-    let none = [0u64; 1];
-    let found = survey(file, &none, false);
-    if found.rest.status != 0 {
+    let Ok(found) = survey(file, None) else {
         return BlockBounds {
             start: BytePos(0),
             end: BytePos(0),
         };
-    }
+    };
     let start = found.head.end;
     let end = start.0 + found.head.extension_length as usize;
     BlockBounds {

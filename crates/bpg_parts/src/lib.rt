@@ -5,4 +5,4 @@ mod bounds;
 mod parts;
 
 pub use bounds::{BlockBounds, block_bounds};
-pub use parts::{EntryAt, data, entry_at, payload};
+pub use parts::{data, entry_at, payload};

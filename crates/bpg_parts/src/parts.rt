@@ -4,37 +4,25 @@ ghost use Rattle.bpg_format.specs.Records.{read_file};
 ghost use Rattle.bpg_format.specs.Parts.{entry_of, payload_of, data_of};
 ghost use Rattle.bpg_parts.specs.Entries.{entry_answer};
 
-use bpg_format::{Entry, zero_entry};
+use bpg_format::Entry;
 use bpg_reader::read;
 
-// An entry of the extension block, or that there is none of that index.
-#[derive(Clone, Copy)]
-pub enum EntryAt {
-    Found(Entry),
-    Absent,
-}
-
-// Tag, range and tag offset of entry k, from 0. A refused file has no entry.
-pub fn entry_at(file: &[u8], k: usize) -> EntryAt
+// Tag, range and tag offset of entry k, from 0, if there is one. A refused file has no entry.
+pub fn entry_at(file: &[u8], k: usize) -> Option<Entry>
     ensures { result ≡ entry_answer file.now k }
 {
     let reading = read(file);
-    let record = reading.record;
-    if record.entry_count as usize <= k {
-        return EntryAt::Absent;
+    if reading.record.entry_count as usize <= k {
+        return None;
     }
-    let entry = record.entries[k];
-    EntryAt::Found(entry)
+    Some(reading.record.entries[k])
 }
 
 // Entry k; the zero entry where there is none.
 fn entry(file: &[u8], k: usize) -> Entry
     ensures { result ≡ entry_of file.now k }
 {
-    match entry_at(file, k) {
-        EntryAt::Absent => zero_entry(),
-        EntryAt::Found(found) => found,
-    }
+    entry_at(file, k).unwrap_or(Entry::default())
 }
 
 // The payload of entry k, from 0; empty where the file is refused or k is past the last entry.
@@ -54,8 +42,7 @@ pub fn data(file: &[u8]) -> &[u8]
     ensures ref_ptr_value { result.ref_ptr.0 ≡ file.entry.ref_ptr.0 }
     ensures ref_ptr_value_2 { result.ref_ptr.1 ≡ file.entry.ref_ptr.1 + (read_file file.now).«record».«data».start }
 {
-    let reading = read(file);
-    let record = reading.record;
-    let start = record.data.start as usize;
-    &file[start..start + record.data.length as usize]
+    let data = read(file).record.data;
+    let start = data.start as usize;
+    &file[start..start + data.length as usize]
 }

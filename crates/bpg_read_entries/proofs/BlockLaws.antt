@@ -10,10 +10,11 @@ use borrow.Author.Tests.{eqb-true, le-leb, lt-leb, eq-eqb, ne_eqb}
 use Rattle.bpg_codec.specs.Outcome.{Outcome, ok, error, ◌>>=◌, Decoded}
 use Rattle.bpg_codec.specs.Lawful.{All, Byte}
 use Rattle.bpg_codec.proofs.Outcome.{bind_assoc}
+use Rattle.bpg_codec.specs.Select.{select}
 use Rattle.bpg_codec.proofs.Select.{select-true, select-false}
 use Rattle.bpg_codec.proofs.Tokens.{all_drop}
 use Rattle.bpg_format.specs.Limits.{max_entries, max_file}
-use Rattle.bpg_format.specs.Content.{Extension}
+use Rattle.bpg_format.specs.Content.{Extension, AnimationControl}
 use Rattle.bpg_format.specs.Syntax.{extension_bytes, block_bytes}
 use Rattle.bpg_format.specs.Rules.{is_animation, has_animation}
 use Rattle.bpg_format.specs.Read.{read_animation, animation_from, animation_of, read_entry, read_entries}
@@ -21,10 +22,13 @@ use Rattle.bpg_format.proofs.FileLaws.{extension-lawful}
 use Rattle.bpg_format.proofs.SyntaxLaws.{extension-encode}
 use Rattle.bpg_format.proofs.Chain.{entry-chain}
 use Rattle.bpg_read_animation.specs.declared.animation.Animation.{Animation}
-use Rattle.bpg_read_entries.specs.declared.entry.EntryReading.{EntryReading}
+use Rattle.bpg_bytes.specs.declared.position.BytePos.{BytePos}
+use Rattle.bpg_bytes.specs.declared.position.Located.{Located}
+use Rattle.bpg_format.specs.declared.record.Entry.{Entry}
+use Rattle.std.specs.Prelude.{Option, Some, None, is_some}
 use Rattle.bpg_read_entries.specs.declared.block.Block.{Block}
-use Rattle.bpg_read_animation.specs.Animations.{found_animation}
-use Rattle.bpg_read_entries.specs.Blocks.{refused_block, block_answer, entries_in}
+use Rattle.bpg_read_animation.specs.Animations.{animation_control, animation_of_control}
+use Rattle.bpg_read_entries.specs.Blocks.{block_of, block_answer, entries_in}
 use Rattle.bpg_read_entries.proofs.EntryLaws.{Started, entry_of}
 use Rattle.bpg_read_entries.proofs.LastEntry.{bytes-snoc, has-snoc, loop-snoc}
 
@@ -49,21 +53,15 @@ module _ (seen : Bool) (p : ℕ) where
 
 -- ---- the loop
 
--- the block with one more entry, and with what is then known of the animation
-abbrev pub added_block : Block → Bool → Animation → Block
-added_block b animated animation =
-    record {
-      status = b.status;
-      offset = b.offset;
-      entry_count = b.entry_count + 1;
-      animated = animated;
-      animation = animation;
-    }
+chosen : {A : Type 0} (b : Bool) (a : A) → is_some (select b (Some a) None) ≡ b
+unfolding select
+chosen true a = refl
+chosen false a = refl
 
 -- `done` was read from p on, and counts in the block; from `next` on the rest is read
 pub record ReadSoFar (region : List ℕ) (p : ℕ) (block : Block) (next : ℕ) : Type 0 where
   pub done : List Extension
-  pub is : block ≡ block_answer (ok done)
+  pub is : block ≡ block_of done
   pub few : length done ≤ max_entries
   pub at : next ≡ p + length (block_bytes done)
   pub rest : read_entries max_entries false p (drop p region)
@@ -73,8 +71,8 @@ nothing : {A : Type 0} (m : Outcome (List A)) → m ≡ (m >>= λ es. ok ([] ++ 
 nothing (ok es) = refl
 nothing (error s o) = refl
 
-pub begins : (region : List ℕ) (p : ℕ) → ReadSoFar region p (refused_block 0 0) p
-unfolding animation_of
+pub begins : (region : List ℕ) (p : ℕ) → ReadSoFar region p (record { entry_count = 0; animation = None }) p
+unfolding select
 begins region p = record { done = []; is = refl; few = omega arith; at = omega arith; rest = nothing (read_entries max_entries false p (drop p region)) }
 
 module _ (region : List ℕ) (p : ℕ) (block : Block) (next : ℕ) (inv : ReadSoFar region p block next) where
@@ -87,14 +85,17 @@ module _ (region : List ℕ) (p : ℕ) (block : Block) (next : ℕ) (inv : ReadS
   pub count_most : block.entry_count ≤ max_entries
   count_most = omega (arith, count, inv.few)
 
-  seen : block.animated ≡ has_animation inv.done
-  seen = ap (λ (b : Block). b.animated) inv.is
+  abbrev animated : Bool
+  animated = is_some block.animation
+
+  seen : animated ≡ has_animation inv.done
+  seen = ap (λ (b : Block). is_some b.animation) inv.is ∙ chosen (has_animation inv.done) _
 
   all_done : length region ≤ next → all ≡ ok inv.done
   all_done h = inv.rest ∙ rw (drop_of_length-le region h, entries-end (has_animation inv.done) next (max_entries - length inv.done), append-nil)
 
-  pub ends : length region ≤ next → block ≡ block_answer all
-  ends h = inv.is ∙ ap block_answer (sym (all_done h))
+  pub ends : length region ≤ next → ok block ≡ block_answer all
+  ends h = ap ok inv.is ∙ ap block_answer (sym (all_done h))
 
   module _ (h : next < length region) where
     some : 0 < length (drop next region)
@@ -105,7 +106,7 @@ module _ (region : List ℕ) (p : ℕ) (block : Block) (next : ℕ) (inv : ReadS
         let none : max_entries - length inv.done ≡ 0 = omega (arith, count) in
         inv.rest ∙ rw (none, entries-full (has_animation inv.done) next (drop next region) some)
 
-    pub full : max_entries ≤ block.entry_count → refused_block 11 next ≡ block_answer all
+    pub full : max_entries ≤ block.entry_count → error 11 next ≡ block_answer all
     full k = ap block_answer (sym (all-full k))
 
     module _ (k : block.entry_count < max_entries) where
@@ -118,24 +119,24 @@ module _ (region : List ℕ) (p : ℕ) (block : Block) (next : ℕ) (inv : ReadS
           let more : max_entries - length inv.done ≡ suc (max_entries - (length inv.done + 1)) = omega (arith, count) in
           inv.rest ∙ rw (more, entries-step (has_animation inv.done) next (max_entries - (length inv.done + 1)) (drop next region) some) (simp bind_assoc)
 
-      step : all ≡ (read_entry block.animated next (drop next region) >>= after)
+      step : all ≡ (read_entry animated next (drop next region) >>= after)
       step = step-seen ∙ ap (λ (b : Bool). read_entry b next (drop next region) >>= after) (sym seen)
 
-      pub stops : (s o : ℕ) → read_entry block.animated next (drop next region) ≡ error s o → refused_block s o ≡ block_answer all
+      pub stops : (s o : ℕ) → read_entry animated next (drop next region) ≡ error s o → error s o ≡ block_answer all
       stops s o e = ap block_answer (sym (step ∙ ap (λ (m : Outcome (Decoded ℕ Extension)). m >>= after) e))
 
       -- an entry was found and read
-      module _ (bytes : All Byte region) (t : EntryReading) (s : Started region next t)
-          (d : read_entry block.animated next (drop next region) ≡ ok (entry_of region t)) where
+      module _ (bytes : All Byte region) (t : Located Entry BytePos) (s : Started region next t)
+          (d : read_entry animated next (drop next region) ≡ ok (entry_of region t)) where
         abbrev new : Extension
         new = (entry_of region t).value
 
         -- it is as long as its bytes
         next-new : t.next.0 ≡ next + length (extension_bytes new)
         next-new =
-            ((extension-lawful block.animated).encodes next next (drop next region) (all_drop Byte next region bytes) (entry_of region t)
-            (entry-chain block.animated next (drop next region) ∙ d)).2
-            ∙ ap (λ (l : List ℕ). next + length l) (extension-encode block.animated new)
+            ((extension-lawful animated).encodes next next (drop next region) (all_drop Byte next region bytes) (entry_of region t)
+            (entry-chain animated next (drop next region) ∙ d)).2
+            ∙ ap (λ (l : List ℕ). next + length l) (extension-encode animated new)
 
         at_new : t.next.0 ≡ p + length (block_bytes (inv.done ++ (new ∷ [])))
         at_new = omega (arith, next-new, inv.at, bytes-snoc new inv.done)
@@ -150,40 +151,37 @@ module _ (region : List ℕ) (p : ℕ) (block : Block) (next : ℕ) (inv : ReadS
         count-new : block.entry_count + 1 ≡ length (inv.done ++ (new ∷ []))
         count-new = omega (arith, count, length-append inv.done (new ∷ []))
 
-        module _ (animated : Bool) (animation : Animation) (says : animated ≡ has_animation (inv.done ++ (new ∷ [])))
-            (said : animation ≡ found_animation (animation_of (inv.done ++ (new ∷ [])))) where
-          added_new : added_block block animated animation ≡ block_answer (ok (inv.done ++ (new ∷ [])))
-          added_new =
-              λ z.
-              record {
-                status = ap (λ (b : Block). b.status) inv.is z;
-                offset = ap (λ (b : Block). b.offset) inv.is z;
-                entry_count = count-new z;
-                animated = says z;
-                animation = said z;
-              }
-
-          read-on : ReadSoFar region p (added_block block animated animation) t.next.0
-          read-on =
-              record { done = inv.done ++ (new ∷ []); is = added_new; few = omega (arith, count, count-new); at = at_new; rest = rest-new }
+        read-on : (a : Option Animation) → a ≡ (block_of (inv.done ++ (new ∷ []))).animation → ReadSoFar region p (record { entry_count = block.entry_count + 1; animation = a }) t.next.0
+        read-on a says =
+            record {
+              done = inv.done ++ (new ∷ []);
+              is = λ z. record { entry_count = count-new z; animation = says z };
+              few = omega (arith, count, count-new);
+              at = at_new;
+              rest = rest-new;
+            }
 
         -- an entry with tag 5 says what is known of the animation; no other does
-        pub goes_on : t.entry.tag ≢ 5 → ReadSoFar region p (added_block block block.animated block.animation) t.next.0
+        pub goes_on : t.value.tag ≢ 5 → ReadSoFar region p (record { entry_count = block.entry_count + 1; animation = block.animation }) t.next.0
         goes_on n =
-            let plain = ne_eqb t.entry.tag 5 n in
-            read-on block.animated block.animation (rw (has-snoc new inv.done, plain, or-false) seen)
-            (rw (loop-snoc new inv.done (λ l. absurd (n (eqb-true t.entry.tag 5 l))), plain, select-false) (ap (λ (b : Block). b.animation) inv.is))
+            let plain = ne_eqb t.value.tag 5 n in
+            let same : animation_of (inv.done ++ (new ∷ [])) ≡ animation_of inv.done =
+            loop-snoc new inv.done (λ l. absurd (n (eqb-true t.value.tag 5 l))) ∙ rw (plain, select-false) in
+            read-on block.animation (rw (has-snoc new inv.done, same, plain, or-false) (ap (λ (b : Block). b.animation) inv.is))
 
-        pub animates : t.entry.tag ≡ 5 → block.animated ≡ false → (a : Animation) → a ≡ found_animation (animation_from (read_animation 0 new.payload))
-            → ReadSoFar region p (added_block block true a) t.next.0
+        pub animates : t.value.tag ≡ 5 → animated ≡ false → (a : Animation) → animation_control a ≡ animation_from (read_animation 0 new.payload)
+            → ReadSoFar region p (record { entry_count = block.entry_count + 1; animation = Some a }) t.next.0
         animates e first a k =
-            let control = eq-eqb t.entry.tag 5 e in
-            read-on true a (rw (has-snoc new inv.done, control, or-true)) (rw (loop-snoc new inv.done (λ _. sym seen ∙ first), control, select-true) k)
+            let control = eq-eqb t.value.tag 5 e in
+            let said : animation_of (inv.done ++ (new ∷ [])) ≡ animation_from (read_animation 0 new.payload) =
+            loop-snoc new inv.done (λ _. sym seen ∙ first) ∙ rw (control, select-true) in
+            read-on (Some a)
+            (rw (has-snoc new inv.done, said, control, or-true, select-true) (ap (λ (x : AnimationControl). Some (animation_of_control x)) k))
 
 -- ---- the region's length
 
 module _ (region : List ℕ) (p : ℕ) where
-  pub too_long : max_file < length region → refused_block 1 0 ≡ block_answer (entries_in region p)
+  pub too_long : max_file < length region → error 1 0 ≡ block_answer (entries_in region p)
   unfolding entries_in
   too_long h = rw (lt-leb _ _ h)
 

@@ -3,22 +3,15 @@ use mathlib.Core.Path.{◌≡◌, ◌∙◌}
 use mathlib.Core.List.{List, ◌++◌, append_assoc}
 use Prim.Native.Nat.{ℕ, ◌+◌, ◌^◌, ◌≤◌, ◌<◌}
 use native.Mathlib.Omega.{arith}
-use lib.Dec.{leb}
 use lib.ListN.{length, drop, length-append, drop_of_length-le}
 use borrow.Author.Tests.{le-leb, lt-leb}
 use Rattle.bpg_codec.specs.Outcome.{ok, error, decoded}
-use Rattle.bpg_codec.proofs.Refusals.{Refuses, refuses-ok, refuses-bind, refuses-guard}
-use Rattle.bpg_ue7.specs.Ue7.{ue7, ue7_bytes}
+use Rattle.bpg_ue7.specs.Ue7.{ue7_bytes}
 use Rattle.bpg_ue7.proofs.Ue7Laws.{decode-end, ue7-lawful}
-use Rattle.bpg_ue7.proofs.Refusals.{ue7-refuses}
 use Rattle.bpg_format.specs.Limits.{max_file}
 use Rattle.bpg_format.specs.Content.{Extension}
 use Rattle.bpg_format.specs.Syntax.{extension_bytes}
 use Rattle.bpg_read_entries.specs.Entries.{entry_start, entry_in}
-
--- a status that is not 0
-abbrev Refusal : (status offset : ℕ) → Type 0
-Refusal s o = 1 ≤ s
 
 module _ (region : List ℕ) (p : ℕ) where
   pub too_long : max_file < length region → entry_in region p ≡ error 1 0
@@ -32,16 +25,6 @@ module _ (region : List ℕ) (p : ℕ) where
   pub past_end : length region ≤ max_file → length region ≤ p → entry_in region p ≡ error 2 p
   unfolding entry_start
   past_end h n = in-region h ∙ rw (drop_of_length-le region n, decode-end)
-
-  pub entry-refuses : Refuses Refusal (entry_in region p)
-  unfolding entry_in entry_start
-  entry-refuses =
-      let number = ue7-refuses Refusal (λ _. omega arith) (λ _. omega arith) (λ _. omega arith) 32 in
-      refuses-guard Refusal (leb (length region) max_file) 1 0 _ (omega arith)
-      (refuses-bind Refusal ((ue7 32).decode p p (drop p region)) _ (number.refuses p p (drop p region)) λ tag.
-      refuses-bind Refusal ((ue7 32).decode tag.next tag.next tag.rest) _ (number.refuses tag.next tag.next tag.rest) λ size.
-      refuses-guard Refusal (leb size.value (length size.rest)) 2 tag.next _ (omega arith)
-      (refuses-ok Refusal (decoded (record { tag = tag.value; size = size.value }) size.next size.rest)))
 
 -- the entry that the syntax writes is read, whatever follows it
 module _ (e : Extension) (tag-Fits : e.tag < 2 ^ 32) (size_fits : length e.payload < 2 ^ 32) (p : ℕ) (after : List ℕ) where

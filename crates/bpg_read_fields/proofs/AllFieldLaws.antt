@@ -1,6 +1,6 @@
 -- All fields of a header as a chain of groups.
 use mathlib.Core.Path.{◌≡◌, refl, sym, ap, ◌∙◌}
-use mathlib.Core.Bool.{Bool, true, false, true≢false}
+use mathlib.Core.Bool.{Bool, false}
 use mathlib.Core.List.{List}
 use Prim.Native.Nat.{ℕ}
 use lib.Dec.{eqb}
@@ -16,7 +16,9 @@ use Rattle.bpg_bits.proofs.Advances.{unsigned-advances, exp_golomb-advances}
 use Rattle.bpg_bits.proofs.Items.{missing_at, Itemed, unsigned-items, exp_golomb-items, sequence-items, mapped-items, optional-items, fixed-items, at_item-located}
 use Rattle.bpg_format.specs.declared.record.Header.{Header}
 use Rattle.bpg_format.specs.FileCodec.{one_bit, optional, size_fields, pcm_fields, sps_fields, no_pcm, no_sps, field_sequence, header_from, fields_of, header_fields}
-use Rattle.bpg_read_fields.specs.declared.all_fields.Fields.{Fields}
+use Rattle.std.specs.Prelude.{Option, Some, None}
+use Rattle.bpg_bytes.specs.declared.position.BitPos.{BitPos}
+use Rattle.bpg_bytes.specs.declared.position.Located.{Located}
 use Rattle.bpg_read_fields.specs.AllFields.{fields_answer}
 
 -- the fields from strong intra smoothing on
@@ -112,20 +114,20 @@ unfolding header_fields
 fields-items = mapped-items sequence-items-all header_from fields_of
 
 -- an answer says for each item what is there
-module _ (bits : List Bool) (p : ℕ) (r : Fields) (e : r ≡ fields_answer (decode_at bits header_fields 0 p)) (i : ℕ) where
-  pub fields-missing : r.found ≡ false → decode_at bits header_fields i p ≡ error 15 i
-  fields-missing f = at_item-located fields-items bits i p ∙ by (decode_at bits header_fields 0 p) e
+module _ (bits : List Bool) (p : ℕ) (r : Option (Located Header BitPos)) (e : r ≡ fields_answer (decode_at bits header_fields 0 p)) (i : ℕ) where
+  pub fields-missing : r ≡ None → decode_at bits header_fields i p ≡ error 15 i
+  fields-missing f = at_item-located fields-items bits i p ∙ by (decode_at bits header_fields 0 p) (sym f ∙ e)
     where
-      by : (m : Outcome (Header × ℕ)) → r ≡ fields_answer m → missing_at i m ≡ error 15 i
-      by (ok x) k = absurd (true≢false (sym (ap (λ (y : Fields). y.found) k) ∙ f))
+      by : (m : Outcome (Header × ℕ)) → None ≡ fields_answer m → missing_at i m ≡ error 15 i
+      by (ok x) k = cc
       by (error s o) k = refl
 
-  pub fields-found : r.found ≡ true → decode_at bits header_fields i p ≡ ok (r.header, r.next.0)
-  fields-found f = at_item-located fields-items bits i p ∙ by (decode_at bits header_fields 0 p) e
+  pub fields-found : (x : Located Header BitPos) → r ≡ Some x → decode_at bits header_fields i p ≡ ok (x.value, x.next.0)
+  fields-found x f = at_item-located fields-items bits i p ∙ by (decode_at bits header_fields 0 p) (sym f ∙ e)
     where
-      by : (m : Outcome (Header × ℕ)) → r ≡ fields_answer m → missing_at i m ≡ ok (r.header, r.next.0)
-      by (ok x) k = ap (λ (y : Fields). ok (y.header, y.next.0)) (sym k)
-      by (error s o) k = absurd (true≢false (sym f ∙ ap (λ (y : Fields). y.found) k))
+      by : (m : Outcome (Header × ℕ)) → Some x ≡ fields_answer m → missing_at i m ≡ ok (x.value, x.next.0)
+      by (ok y) k = let same : x ≡ record { value = y.0; next = record { 0 = y.1 } } = cc in ap (λ (z : Located Header BitPos). ok (z.value, z.next.0)) (sym same)
+      by (error s o) k = cc
 
 -- ---- the chains
 

@@ -12,7 +12,7 @@ use borrow.Author.Tests.{eqb-false, ne_eqb, lt-leb, le-ltb}
 use Rattle.bpg_codec.specs.Select.{select}
 use Rattle.bpg_codec.proofs.Select.{is_false, and_left, and_right}
 use Rattle.bpg_format.proofs.WriteLaws.{or-test}
-use Rattle.bpg_read_fields.specs.Table.{widths, gates, after_group, no_values, values_from}
+use Rattle.bpg_read_fields.specs.Table.{gates, after_group, no_values, values_from}
 use Rattle.bpg_read_fields.proofs.LoopLaws.{all-absent}
 
 -- ---- rules of the table's rows, each by one test that antt computes
@@ -28,12 +28,6 @@ below (suc n) f t (suc k) h = below n (λ k. f (suc k)) (and_right (f 0) (all_be
 
 abbrev gate : ℕ → ℕ
 gate k = get_or gates k 0
-
-pub gate-small : (k : ℕ) → k < 25 → gate k < 26
-gate-small k h = ltb→lt _ _ (below 25 (λ (k : ℕ). ltb (gate k) 26) tt k h)
-
-pub width_small : (k : ℕ) → k < 25 → get_or widths k 0 ≤ 8
-width_small k h = leb→le _ _ (below 25 (λ (k : ℕ). leb (get_or widths k 0) 8) tt k h)
 
 first-zero : (k : ℕ) → k < 25 → get_or no_values k 0 ≡ 0
 first-zero k h = eqb→eq _ _ (below 25 (λ (k : ℕ). eqb (get_or no_values k 0) 0) tt k h)

@@ -4,7 +4,7 @@ use mathlib.Core.Bool.{Bool, true, false}
 use mathlib.Core.List.{List}
 use Prim.Native.Nat.{ℕ, zero, suc, ◌+◌, ◌-◌, ◌≤◌, ◌<◌}
 use native.Mathlib.Omega.{arith}
-use lib.ListN.{get_or, set, replicate}
+use lib.ListN.{get_or, set}
 use lib.Seq.{set-get_or}
 use borrow.Author.Tests.{eq-eqb, ne_eqb}
 use Rattle.bpg_codec.specs.Outcome.{Outcome, ok, error, ◌>>=◌}
@@ -12,9 +12,9 @@ use Rattle.bpg_codec.specs.Codec.{Codec, decode_at}
 use Rattle.bpg_codec.specs.Parts.{absent}
 use Rattle.bpg_codec.proofs.Select.{select-false}
 use Rattle.bpg_codec.proofs.Outcome.{error-not-ok}
-use Rattle.bpg_bytes.specs.Positions.{bit_pos}
-use Rattle.bpg_bits.specs.declared.bits.BitNumber.{BitNumber}
-use Rattle.bpg_bits.specs.declared.bits.BitNumber.TheVariants.{Missing}
+use Rattle.std.specs.Prelude.{Option, None}
+use Rattle.bpg_bytes.specs.declared.position.BitPos.{BitPos}
+use Rattle.bpg_bytes.specs.declared.position.Located.{Located}
 use Rattle.bpg_bits.specs.Answers.{bit_outcome, bit_answer}
 use Rattle.bpg_read_fields.specs.Table.{widths, gates, field_codec, field_at, values_from, values_answer}
 
@@ -63,7 +63,7 @@ module _ (bits : List Bool) where
     all-absent e (suc n) k m f = values-absent k (f k (omega arith) (omega arith)) ∙ all-absent e n (k + 1) (omega arith) (λ i a b. f i (omega arith) b)
 
 -- a field that is missing ends it
-pub missing-ends : (r : BitNumber) (o : Outcome (ℕ × ℕ)) → r ≡ bit_answer o → r ≡ Missing → (k : ℕ × ℕ → Outcome (List ℕ × ℕ))
-    → record { found = false; values = replicate 26 0; next = bit_pos 0 } ≡ values_answer (o >>= k)
+pub missing-ends : (r : Option (Located ℕ BitPos)) (o : Outcome (ℕ × ℕ)) → r ≡ bit_answer o → r ≡ None → (k : ℕ × ℕ → Outcome (List ℕ × ℕ))
+    → None ≡ values_answer (o >>= k)
 missing-ends r (ok x) e m k = absurd (error-not-ok (ap (bit_outcome 0) (sym m ∙ e)))
 missing-ends r (error s p) e m k = refl

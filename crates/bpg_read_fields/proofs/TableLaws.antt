@@ -1,6 +1,6 @@
 -- The table's fields are those of a header.
 use mathlib.Core.Path.{◌≡◌, refl, sym, ap, ◌∙◌}
-use mathlib.Core.Bool.{Bool, true, false, true≢false}
+use mathlib.Core.Bool.{Bool, true, false}
 use mathlib.Core.List.{List, [], ◌∷◌, ◌++◌}
 use Prim.Native.Nat.{ℕ, suc, min, ◌-◌, ◌%◌, ◌^◌, ◌≤◌, ◌<◌}
 use native.Mathlib.Nat.{mod-eq_of_lt}
@@ -21,9 +21,10 @@ use Rattle.bpg_bits.proofs.Advances.{unsigned-advances, exp_golomb-advances}
 use Rattle.bpg_bits.proofs.BitNumberLaws.{unsigned-lawful}
 use Rattle.bpg_format.specs.declared.record.Header.{Header}
 use Rattle.bpg_format.specs.FileCodec.{one_bit, optional, SizeFields, size_fields, PcmFields, pcm_fields, no_pcm, sps_fields, no_sps, header_from, header_fields}
-use Rattle.bpg_read_fields.specs.declared.all_fields.Fields.{Fields}
-use Rattle.bpg_read_fields.specs.declared.values.Values.{Values}
-use Rattle.bpg_read_fields.specs.AllFields.{missing_fields, fields_answer}
+use Rattle.std.specs.Prelude.{Option, Some, None}
+use Rattle.bpg_bytes.specs.declared.position.BitPos.{BitPos}
+use Rattle.bpg_bytes.specs.declared.position.Located.{Located}
+use Rattle.bpg_read_fields.specs.AllFields.{fields_answer}
 use Rattle.bpg_read_fields.specs.Table.{widths, gates, no_values, field_codec, field_at, values_from, values_answer, header_of}
 use Rattle.bpg_read_fields.proofs.AllFieldLaws.{optional-advances, sizes-at, pcm-at, sps-at, flag_at, rest_sequence, rest_at, fields_at}
 use Rattle.bpg_read_fields.proofs.LoopLaws.{values-none, values-suc, field-absent}
@@ -258,21 +259,23 @@ module _ (bits : List Bool) where
 
 -- ---- the values as the fields' answer
 
-module _ (bits : List Bool) (p : ℕ) (v : Values) (e : v ≡ values_answer (values_from bits 25 no_values p)) where
-  by-table : (r : Fields) → r ≡ fields_answer (made bits 25 no_values p) → r ≡ fields_answer (decode_at bits header_fields 0 p)
+module _ (bits : List Bool) (p : ℕ) (v : Option (Located (List ℕ) BitPos)) (e : v ≡ values_answer (values_from bits 25 no_values p)) where
+  by-table : (r : Option (Located Header BitPos)) → r ≡ fields_answer (made bits 25 no_values p) → r ≡ fields_answer (decode_at bits header_fields 0 p)
   by-table r k = k ∙ ap fields_answer (table-fields bits p)
 
-  pub values-missing : v.found ≡ false → missing_fields ≡ fields_answer (decode_at bits header_fields 0 p)
-  values-missing f = by-table missing_fields (by (values_from bits 25 no_values p) e)
+  pub values-missing : v ≡ None → None ≡ fields_answer (decode_at bits header_fields 0 p)
+  values-missing f = by-table None (by (values_from bits 25 no_values p) (sym f ∙ e))
     where
-      by : (o : Outcome (List ℕ × ℕ)) → v ≡ values_answer o → missing_fields ≡ fields_answer (o >>= λ x. ok (header_of x.0, x.1))
-      by (ok x) k = absurd (true≢false (sym (ap (λ (y : Values). y.found) k) ∙ f))
+      by : (o : Outcome (List ℕ × ℕ)) → None ≡ values_answer o → None ≡ fields_answer (o >>= λ x. ok (header_of x.0, x.1))
+      by (ok x) k = cc
       by (error s q) k = refl
 
-  pub values-found : v.found ≡ true → record { found = true; header = header_of v.values; next = v.next } ≡ fields_answer (decode_at bits header_fields 0 p)
-  values-found f = by-table _ (by (values_from bits 25 no_values p) e)
+  pub values-found : (x : Located (List ℕ) BitPos) → v ≡ Some x → Some (record { value = header_of x.value; next = x.next }) ≡ fields_answer (decode_at bits header_fields 0 p)
+  values-found x f = by-table _ (by (values_from bits 25 no_values p) (sym f ∙ e))
     where
-      by : (o : Outcome (List ℕ × ℕ)) → v ≡ values_answer o
-          → record { found = true; header = header_of v.values; next = v.next } ≡ fields_answer (o >>= λ x. ok (header_of x.0, x.1))
-      by (ok x) k = ap (λ (y : Values). record { found = true; header = header_of y.values; next = y.next }) k
-      by (error s q) k = absurd (true≢false (sym f ∙ ap (λ (y : Values). y.found) k))
+      by : (o : Outcome (List ℕ × ℕ)) → Some x ≡ values_answer o
+          → Some (record { value = header_of x.value; next = x.next }) ≡ fields_answer (o >>= λ x. ok (header_of x.0, x.1))
+      by (ok y) k =
+          let same : x ≡ record { value = y.0; next = record { 0 = y.1 } } = cc in
+          ap (λ (z : Located (List ℕ) BitPos). Some (record { value = header_of z.value; next = z.next })) same
+      by (error s q) k = cc

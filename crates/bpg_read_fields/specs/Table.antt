@@ -1,14 +1,15 @@
 -- For proofs and inner contracts: the fields of a HEVC header one by one (document 01, "Order of the file", item 6), as a table. Its rows are
 -- `header_fields` (`proofs/TableLaws`).
-use Rattle.std.specs.Prelude.{Bool, true, false, List, [], ◌∷◌, ◌++◌, ℕ, zero, suc, min, ◌-◌, ◌%◌, eqb, get_or, set, replicate}
+use Rattle.std.specs.Prelude.{Option, Some, None, Bool, List, [], ◌∷◌, ◌++◌, ℕ, zero, suc, min, ◌-◌, ◌%◌, eqb, get_or, set, replicate}
 use Rattle.bpg_codec.specs.Select.{select}
 use Rattle.bpg_codec.specs.Outcome.{Outcome, ok, error, ◌>>=◌}
 use Rattle.bpg_codec.specs.Codec.{Codec, decode_at}
+use Rattle.bpg_bytes.specs.declared.position.BitPos.{BitPos}
+use Rattle.bpg_bytes.specs.declared.position.Located.{Located}
 use Rattle.bpg_bytes.specs.Positions.{bit_pos}
 use Rattle.bpg_bits.specs.BitNumbers.{unsigned, exp_golomb}
 use Rattle.bpg_format.specs.declared.record.Header.{Header}
 use Rattle.bpg_format.specs.FileCodec.{optional, header_from}
-use Rattle.bpg_read_fields.specs.declared.values.Values.{Values}
 
 -- how many bits each field has; 0: it is ue(v). The last nine are the range flags
 abbrev pub widths : List ℕ
@@ -39,9 +40,12 @@ unfoldable pub values_from : (bits : List Bool) (n : ℕ) (values : List ℕ) (p
 values_from bits zero values p = ok (values, p)
 values_from bits (suc n) values p = decode_at bits (field_at (24 - n) values) 0 p >>= λ x. values_from bits n (set values (24 - n) x.0) x.1
 
-abbrev pub values_answer : Outcome (List ℕ × ℕ) → Values
-values_answer (ok x) = record { found = true; values = x.0; next = bit_pos x.1 }
-values_answer (error s o) = record { found = false; values = replicate 26 0; next = bit_pos 0 }
+abbrev pub values_at : (values : List ℕ) (next : ℕ) → Located (List ℕ) BitPos
+values_at v p = record { value = v; next = bit_pos p }
+
+abbrev pub values_answer : Outcome (List ℕ × ℕ) → Option (Located (List ℕ) BitPos)
+values_answer (ok x) = Some (values_at x.0 x.1)
+values_answer (error s o) = None
 
 abbrev flag : (k : ℕ) → List ℕ → Bool
 flag k v = eqb (get_or v k 0) 1

@@ -3,31 +3,12 @@ ghost use Rattle.std.specs.Prelude.{◌≡◌};
 ghost use Rattle.bpg_codec.specs.Codec.{decode_at};
 ghost use Rattle.bpg_bits.specs.BitNumbers.{region_bits};
 ghost use Rattle.bpg_format.specs.FileCodec.{header_fields};
-ghost use Rattle.bpg_read_fields.specs.AllFields.{missing_fields, fields_answer};
+ghost use Rattle.bpg_read_fields.specs.AllFields.{fields_answer};
 ghost use Rattle.bpg_read_fields.specs.Table.{header_of};
 
 use crate::values;
-use bpg_bytes::BitPos;
-use bpg_format::{Header, zero_header};
-
-// The header and the position after its fields, or that one is missing.
-#[derive(Clone, Copy)]
-pub struct Fields {
-    pub found: bool,
-    pub header: Header,
-    pub next: BitPos,
-}
-
-fn missing() -> Fields
-    ensures { result ≡ missing_fields }
-{
-    let header = zero_header();
-    Fields {
-        found: false,
-        header,
-        next: BitPos(0),
-    }
-}
+use bpg_bytes::{BitPos, Located};
+use bpg_format::Header;
 
 // The header that the values of its fields make.
 fn header_of(v: [u32; 26]) -> Header
@@ -64,20 +45,13 @@ fn header_of(v: [u32; 26]) -> Header
     }
 }
 
-// All fields from `at` on. The item that a missing one is refused at is the caller's, so here it is 0.
-pub fn read(region: &[u8], at: BitPos) -> Fields
+// All fields from `at` on, or none where one is missing. The item that a missing one is refused at is the caller's, so here it is 0.
+pub fn read(region: &[u8], at: BitPos) -> Option<Located<Header, BitPos>>
     ensures { result ≡ fields_answer (decode_at (region_bits region.now) header_fields 0 at.0) }
 {
-    let read = values::read(region, at);
-    if !read.found {
-        return missing();
-    }
-    let values = read.values;
-    let header = header_of(values);
-    let next = read.next;
-    Fields {
-        found: true,
-        header,
-        next,
-    }
+    let values = values::read(region, at)?;
+    Some(Located {
+        value: header_of(values.value),
+        next: values.next,
+    })
 }

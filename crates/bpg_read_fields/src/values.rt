@@ -4,34 +4,21 @@ ghost use Rattle.bpg_bits.specs.BitNumbers.{region_bits};
 ghost use Rattle.bpg_read_fields.specs.Table.{values_answer, values_from, no_values, after_group};
 
 use crate::field;
-use bpg_bits::bits::BitNumber;
-use bpg_bytes::BitPos;
-use bpg_bytes::arithmetic::remaining;
-use bpg_next_bits::next_bits;
-
-// The values, after them a 1, and the position after the fields; or that one is missing.
-#[derive(Clone, Copy)]
-pub(crate) struct Values {
-    pub(crate) found: bool,
-    pub(crate) values: [u32; 26],
-    pub(crate) next: BitPos,
-}
+use bpg_bytes::{BitPos, Located};
+use bpg_next_bits::NextBits;
 
 // The field that follows an absent group: 12 the PCM fields (gate 6). None follows the extension (13): the range flags are absent with it, as
 // their gate (14), one of its fields, is 0.
 fn after_group(gate: usize) -> usize
     ensures { result ≡ after_group gate }
 {
-    if gate == 6 {
-        return 12;
-    }
-    25
+    if gate == 6 { 12 } else { 25 }
 }
 
-// Reads them from `at` on. Field k has widths[k] bits (0: ue(v)), and is there if the value at gates[k] is 1;
-// where it is not, its group is passed over at once, since the values of its fields are 0 from the start. `left` of the bits from `next` on stand
-// in the high bits of `word`: after a field of 64 bits or more, none.
-pub(crate) fn read(region: &[u8], at: BitPos) -> Values
+// Reads the values from `at` on, with a 1 after them; none, where one is missing. Field k has widths[k] bits (0: ue(v)), and is there if the value
+// at gates[k] is 1; where it is not, its group is passed over at once (so the loop is no `for`), since the values of its fields are 0 from the
+// start. `bits` are the next bits from `next` on.
+pub(crate) fn read(region: &[u8], at: BitPos) -> Option<Located<[u32; 26], BitPos>>
     ensures { result ≡ values_answer (values_from (region_bits region.now) 25 no_values at.0) }
 {
     let widths =
@@ -41,37 +28,22 @@ pub(crate) fn read(region: &[u8], at: BitPos) -> Values
     let mut values = [0u32; 26];
     values[25] = 1;
     let mut next = at.0;
-    let first = next_bits(region, at);
-    let mut word = first.word;
-    let mut left = first.count;
+    let mut bits = NextBits::new(region, at);
     let mut k: usize = 0;
     while k < 25 {
-        let gate = gates[k] as usize;
+        let gate = usize::from(gates[k]);
         if values[gate] != 1 {
             k = after_group(gate);
             continue;
         }
-        match field::read(region, BitPos(next), widths[k], word, left) {
-            BitNumber::Missing => {
-                return Values {
-                    found: false,
-                    values: [0u32; 26],
-                    next: BitPos(0),
-                };
-            }
-            BitNumber::Value(value, after) => {
-                values[k] = value;
-                let size = after.0 - next;
-                next = after.0;
-                word = word << (size % 64);
-                left = remaining(left, size);
-            }
-        }
+        let field = field::read(region, BitPos(next), widths[k], bits)?;
+        values[k] = field.value;
+        bits = bits.after(field.next.0 - next);
+        next = field.next.0;
         k += 1;
     }
-    Values {
-        found: true,
-        values,
+    Some(Located {
+        value: values,
         next: BitPos(next),
-    }
+    })
 }

@@ -1,10 +1,7 @@
--- What reading magic, byte 4 and byte 5 answers (document 01, "Order of the file", items 1 and 2).
-use Rattle.std.specs.Prelude.{false, ℕ}
-use Rattle.bpg_codec.specs.Outcome.{Outcome, ok, error}
-use Rattle.bpg_bytes.specs.Positions.{byte_pos}
+-- The flags of byte 4 and byte 5 (document 01, "Order of the file", items 1 and 2).
+use Rattle.std.specs.Prelude.{false}
 use Rattle.bpg_format.specs.Content.{Flags}
 use Rattle.bpg_read_head.specs.declared.flags.Flags.{Flags as CodedFlags}
-use Rattle.bpg_read_head.specs.declared.flags.FlagsReading.{FlagsReading}
 
 abbrev pub zero_flags : CodedFlags
 zero_flags =
@@ -46,10 +43,3 @@ flag_fields r =
       limited_range = r.limited_range_flag;
       animation = r.animation_flag;
     }
-
-abbrev pub refused_flags : (status offset : ℕ) → FlagsReading
-refused_flags s o = record { status = s; offset = byte_pos o; flags = zero_flags }
-
-abbrev pub flags_answer : Outcome Flags → FlagsReading
-flags_answer (ok f) = record { status = 0; offset = byte_pos 0; flags = coded_flags f }
-flags_answer (error s o) = refused_flags s o

@@ -1,7 +1,6 @@
--- What reading width and height answers (document 01, "Order of the file", item 3).
+-- What reading width and height gives (document 01, "Order of the file", item 3).
 use Rattle.std.specs.Prelude.{List, ℕ}
-use Rattle.bpg_codec.specs.Outcome.{Outcome, ok, error, ◌>>=◌, guard, Decoded, decoded}
-use Rattle.bpg_bytes.specs.Positions.{byte_pos}
+use Rattle.bpg_codec.specs.Outcome.{Outcome, ok, ◌>>=◌, guard, Decoded, decoded}
 use Rattle.bpg_ue7.specs.Ue7.{ue7_decode, not_zero}
 use Rattle.bpg_read_head.specs.declared.size.Size.{Size}
 
@@ -13,9 +12,5 @@ read_size p l =
     guard (not_zero height.value) 9 width.next >>= λ _.
     ok (decoded (width.value, height.value) height.next height.rest)
 
-abbrev pub refused_size : (status offset : ℕ) → Size
-refused_size s o = record { status = s; offset = byte_pos o; width = 0; height = 0; next = byte_pos 0 }
-
-abbrev pub size_answer : Outcome (Decoded ℕ (ℕ × ℕ)) → Size
-size_answer (ok x) = record { status = 0; offset = byte_pos 0; width = x.value.0; height = x.value.1; next = byte_pos x.next }
-size_answer (error s o) = refused_size s o
+abbrev pub size_numbers : Size → ℕ × ℕ
+size_numbers x = (x.width, x.height)

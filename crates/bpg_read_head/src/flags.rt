@@ -1,15 +1,22 @@
 // Magic, byte 4 and byte 5.
-ghost use Rattle.std.specs.Prelude.{◌≡◌, ◌≤◌, length, take};
+ghost use Rattle.std.specs.Prelude.{◌≡◌, take};
 ghost use Rattle.bpg_codec.specs.Lists.{same};
+ghost use Rattle.bpg_refusal.specs.Outcomes.{outcome};
 ghost use Rattle.bpg_format.specs.Syntax.{magic};
 ghost use Rattle.bpg_format.specs.Read.{flags_of, read_flags};
-ghost use Rattle.bpg_read_head.specs.FlagBytes.{zero_flags, coded_flags, refused_flags, flags_answer};
+ghost use Rattle.bpg_read_head.specs.FlagBytes.{flag_fields};
 
 use bpg_bytes::BytePos;
 use bpg_format::color_space_allowed;
+use bpg_refusal::{Reason, Refusal};
+
+// How many bytes they take.
+const LEAST: usize = 6;
+
+const MAGIC: [u8; 4] = [0x42, 0x50, 0x47, 0xfb];
 
 // The fields of byte 4 and byte 5.
-#[derive(Clone, Copy)]
+#[derive(Clone, Copy, Default)]
 pub struct Flags {
     pub pixel_format: u8,
     pub alpha1_flag: bool,
@@ -21,59 +28,15 @@ pub struct Flags {
     pub animation_flag: bool,
 }
 
-// Status 0 and the flags; or a refusal and zeros.
-#[derive(Clone, Copy)]
-pub struct FlagsReading {
-    pub status: u8,
-    pub offset: BytePos,
-    pub flags: Flags,
-}
-
-pub fn zero_flags() -> Flags
-    ensures { result ≡ zero_flags }
-{
-    Flags {
-        pixel_format: 0,
-        alpha1_flag: false,
-        bit_depth_minus_8: 0,
-        color_space: 0,
-        extension_present_flag: false,
-        alpha2_flag: false,
-        limited_range_flag: false,
-        animation_flag: false,
-    }
-}
-
-fn refused(status: u8, offset: BytePos) -> FlagsReading
-    ensures { result ≡ refused_flags status offset.0 }
-{
-    let flags = zero_flags();
-    FlagsReading {
-        status,
-        offset,
-        flags,
-    }
-}
-
 fn has_magic(file: &[u8]) -> bool
-    requires { 4 ≤ length file.now }
     ensures { result ≡ same magic (take 4 file.now) }
 {
-    if file[0] != 0x42 {
-        return false;
-    }
-    if file[1] != 0x50 {
-        return false;
-    }
-    if file[2] != 0x47 {
-        return false;
-    }
-    file[3] == 0xfb
+    file.starts_with(&MAGIC)
 }
 
 // What the two bytes hold, whatever they are.
 fn from_bytes(byte4: u8, byte5: u8) -> Flags
-    ensures { result ≡ coded_flags (flags_of byte4 byte5) }
+    ensures { flag_fields result ≡ flags_of byte4 byte5 }
 {
     Flags {
         pixel_format: byte4 / 32,
@@ -87,30 +50,24 @@ fn from_bytes(byte4: u8, byte5: u8) -> Flags
     }
 }
 
-pub fn read(file: &[u8]) -> FlagsReading
-    ensures { result ≡ flags_answer (read_flags file.now) }
+pub fn read(file: &[u8]) -> Result<Flags, Refusal>
+    ensures { outcome flag_fields result ≡ read_flags file.now }
 {
-    if file.len() < 6 {
-        return refused(2, BytePos(0));
+    if file.len() < LEAST {
+        return Err(Reason::Truncated.at(BytePos(0)));
     }
     if !has_magic(file) {
-        return refused(3, BytePos(0));
+        return Err(Reason::Magic.at(BytePos(0)));
     }
-    let byte4 = file[4];
-    let byte5 = file[5];
-    if 5 < byte4 / 32 {
-        return refused(4, BytePos(4));
+    let flags = from_bytes(file[4], file[5]);
+    if 5 < flags.pixel_format {
+        return Err(Reason::BadPixelFormat.at(BytePos(4)));
     }
-    if 6 < byte4 % 16 {
-        return refused(5, BytePos(4));
+    if 6 < flags.bit_depth_minus_8 {
+        return Err(Reason::BadBitDepth.at(BytePos(4)));
     }
-    if !color_space_allowed(byte4 / 32, byte5 / 16) {
-        return refused(6, BytePos(5));
+    if !color_space_allowed(flags.pixel_format, flags.color_space) {
+        return Err(Reason::BadColorSpace.at(BytePos(5)));
     }
-    let flags = from_bytes(byte4, byte5);
-    FlagsReading {
-        status: 0,
-        offset: BytePos(0),
-        flags,
-    }
+    Ok(flags)
 }

@@ -1,47 +1,31 @@
 // Width and height.
 ghost use Rattle.std.specs.Prelude.{◌≡◌, drop};
-ghost use Rattle.bpg_read_head.specs.Sizes.{read_size, refused_size, size_answer};
+ghost use Rattle.bpg_codec.specs.Outcome.{located};
+ghost use Rattle.bpg_bytes.specs.Positions.{value_at};
+ghost use Rattle.bpg_refusal.specs.Outcomes.{outcome};
+ghost use Rattle.bpg_read_head.specs.Sizes.{read_size, size_numbers};
 
-use bpg_bytes::BytePos;
+use bpg_bytes::{BytePos, Located};
+use bpg_refusal::{Reason, Refusal};
 use bpg_ue7::ue7;
-use bpg_ue7::ue7::Number;
 
-// Status 0, the two numbers and the offset after them; or a refusal and zeros.
 #[derive(Clone, Copy)]
 pub struct Size {
-    pub status: u8,
-    pub offset: BytePos,
     pub width: u32,
     pub height: u32,
-    pub next: BytePos,
 }
 
-fn refused(status: u8, offset: BytePos) -> Size
-    ensures { result ≡ refused_size status offset.0 }
+// The two numbers from `at` on, of which none is 0.
+pub fn read(file: &[u8], at: BytePos) -> Result<Located<Size>, Refusal>
+    ensures { outcome (value_at size_numbers) result ≡ located (read_size at.0 (drop at.0 file.now)) }
 {
-    Size {
-        status,
-        offset,
-        width: 0,
-        height: 0,
-        next: BytePos(0),
-    }
-}
-
-pub fn read(file: &[u8], at: BytePos) -> Size
-    ensures { result ≡ size_answer (read_size at.0 (drop at.0 file.now)) }
-{
-    match ue7::read_nonzero(file, at, 32, 9) {
-        Number::Refused(status, offset) => refused(status, offset),
-        Number::Value(width, after_width) => match ue7::read_nonzero(file, after_width, 32, 9) {
-            Number::Refused(status, offset) => refused(status, offset),
-            Number::Value(height, next) => Size {
-                status: 0,
-                offset: BytePos(0),
-                width,
-                height,
-                next,
-            },
+    let width = ue7::read_nonzero(file, at, 32, Reason::EmptyPicture)?;
+    let height = ue7::read_nonzero(file, width.next, 32, Reason::EmptyPicture)?;
+    Ok(Located {
+        value: Size {
+            width: width.value,
+            height: height.value,
         },
-    }
+        next: height.next,
+    })
 }

@@ -1,72 +1,46 @@
 -- Reading both headers, by what each is read as.
-use mathlib.Core.Path.{◌≡◌, refl, sym, ap, ◌∙◌, subst}
-use mathlib.Core.Logic.{◌≢◌}
+use mathlib.Core.Path.{◌≡◌, refl, sym, ap}
 use mathlib.Core.Bool.{Bool, true, false}
 use mathlib.Core.List.{List}
 use Prim.Native.Nat.{ℕ}
-use lib.Dec.{leb}
-use lib.ListN.{length, drop}
-use Rattle.bpg_codec.specs.Outcome.{Outcome, ok, error, Decoded, decoded}
+use lib.ListN.{drop}
+use Rattle.bpg_codec.specs.Outcome.{Outcome, ok, error, ◌>>=◌, Decoded, decoded, located}
 use Rattle.bpg_codec.proofs.Select.{select-true, select-false}
-use Rattle.bpg_codec.proofs.Answers.{refused-error, accepted-value}
-use Rattle.bpg_codec.proofs.Refusals.{Refuses, refuses-ok, refuses-guard, refuses-select}
-use Rattle.bpg_bytes.specs.Positions.{byte_pos}
-use Rattle.bpg_format.specs.Limits.{max_file}
 use Rattle.bpg_format.specs.declared.record.Header.{Header}
 use Rattle.bpg_format.specs.Zero.{zero_header}
-use Rattle.bpg_format.specs.Read.{read_header, ReadingStatus}
-use Rattle.bpg_format.proofs.Chain.{header-chain}
-use Rattle.bpg_format.proofs.ReadingRefusals.{Numbered, header-refuses}
-use Rattle.bpg_read_headers.specs.declared.header.HeaderReading.{HeaderReading}
-use Rattle.bpg_read_headers.specs.Headers.{header_answer, header_in}
-use Rattle.bpg_read_headers.specs.BothHeaders.{alpha_in, refused_headers, headers_answer, headers_in}
-
-refuses-header : (file : List ℕ) (depth p : ℕ) → Refuses Numbered (header_in file depth p)
-unfolding header_in
-refuses-header file depth p =
-    refuses-guard Numbered (leb (length file) max_file) 1 0 (read_header depth p (drop p file)) tt
-    (λ s o e. (header-refuses depth).refuses 0 p (drop p file) s o (header-chain depth 0 p (drop p file) ∙ e))
-
-refuses-alpha : (file : List ℕ) (b : Bool) (depth p : ℕ) → Refuses Numbered (alpha_in file b depth p)
-refuses-alpha file b depth p =
-    refuses-select Numbered b (header_in file depth p) _ (refuses-header file depth p) (refuses-ok Numbered (decoded zero_header p (drop p file)))
+use Rattle.bpg_read_headers.specs.Headers.{header_in}
+use Rattle.bpg_read_headers.specs.BothHeaders.{alpha_in, headers_in}
 
 -- ---- the alpha header
 
 module _ (file : List ℕ) (b : Bool) (depth p : ℕ) where
-  pub alpha-present : b ≡ true → header_answer (header_in file depth p) ≡ header_answer (alpha_in file b depth p)
-  alpha-present h = ap header_answer (sym (select-true _ _ h))
+  pub alpha-present : b ≡ true → located (header_in file depth p) ≡ located (alpha_in file b depth p)
+  alpha-present h = ap located (sym (select-true _ _ h))
 
-  pub alpha-absent : b ≡ false → header_answer (ok (decoded zero_header p (drop p file))) ≡ header_answer (alpha_in file b depth p)
-  alpha-absent h = ap header_answer (sym (select-false _ _ h))
+  pub alpha-absent : b ≡ false → ok (zero_header, p) ≡ located (alpha_in file b depth p)
+  alpha-absent h = ap located (sym (select-false _ (ok (decoded zero_header p (drop p file))) h))
 
--- ---- both
+-- ---- both, without what is left after them
 
-module _ {Q : Type 0} (o : Outcome (Decoded ℕ Header)) (r : HeaderReading) (e : r ≡ header_answer o) where
-  stopped : r.status ≢ 0 → ((s q : ℕ) → o ≡ error s q → Q) → Q
-  stopped = refused-error header_answer (λ r. r.status) (λ _. refl) (λ _ _. refl) o r e
+abbrev Both : Type 0
+Both = Header × Header × ℕ
 
-  went_on : r.status ≡ 0 → Refuses Numbered o → ((x : Decoded ℕ Header) → o ≡ ok x → Q) → Q
-  went_on z h = accepted-value header_answer (λ r. r.status) (λ _. refl) (λ _ _. refl) o r e z λ s q w k. absurd (subst ReadingStatus k (h s q w))
+abbrev both : Header → Header × ℕ → Both
+both a c = (a, c.0, c.1)
 
-module _ (file : List ℕ) (b : Bool) (depth p : ℕ) (r : HeaderReading) (e : r ≡ header_answer (alpha_in file b depth p)) where
-  pub alpha-refused : r.status ≢ 0 → refused_headers r.status r.offset.0 ≡ headers_answer (headers_in file b depth p)
-  unfolding headers_in
-  alpha-refused n = stopped (alpha_in file b depth p) r e n λ s q w. rw (e, w)
+abbrev then : Outcome (Header × ℕ) → (ℕ → Outcome (Header × ℕ)) → Outcome Both
+then o f = o >>= λ a. f a.1 >>= λ c. ok (both a.0 c)
 
-  module _ (z : r.status ≡ 0) (t : HeaderReading) (g : t ≡ header_answer (header_in file depth r.next.0)) where
-    pub color-refused : t.status ≢ 0 → refused_headers t.status t.offset.0 ≡ headers_answer (headers_in file b depth p)
-    unfolding headers_in
-    color-refused n =
-        went_on (alpha_in file b depth p) r e z (refuses-alpha file b depth p) λ x w.
-        let after : header_in file depth r.next.0 ≡ header_in file depth x.next = ap (λ (h : HeaderReading). header_in file depth h.next.0) (e ∙ ap header_answer w) in
-        stopped (header_in file depth r.next.0) t g n λ s q v. rw (w, sym after ∙ v, g, v)
+second : (a : Decoded ℕ Header) (o : Outcome (Decoded ℕ Header)) → (o >>= λ c. ok (both a.value (c.value, c.next))) ≡ (located o >>= λ c. ok (both a.value c))
+second a (ok c) = refl
+second a (error s q) = refl
 
-    pub both_read : t.status ≡ 0
-        → record { status = 0; offset = byte_pos 0; alpha = r.header; color = t.header; next = t.next } ≡ headers_answer (headers_in file b depth p)
-    unfolding headers_in
-    both_read y =
-        went_on (alpha_in file b depth p) r e z (refuses-alpha file b depth p) λ x w.
-        let after : header_in file depth r.next.0 ≡ header_in file depth x.next = ap (λ (h : HeaderReading). header_in file depth h.next.0) (e ∙ ap header_answer w) in
-        went_on (header_in file depth r.next.0) t g y (refuses-header file depth r.next.0) λ c v.
-        rw (w, sym after ∙ v, g, v, e, w)
+first : (o : Outcome (Decoded ℕ Header)) (f : ℕ → Outcome (Decoded ℕ Header))
+    → (o >>= λ a. f a.next >>= λ c. ok (both a.value (c.value, c.next))) ≡ then (located o) (λ q. located (f q))
+first (ok a) f = second a (f a.next)
+first (error s q) f = refl
+
+pub headers-chain : (file : List ℕ) (b : Bool) (depth p : ℕ)
+    → headers_in file b depth p ≡ then (located (alpha_in file b depth p)) (λ q. located (header_in file depth q))
+unfolding headers_in
+headers-chain file b depth p = first (alpha_in file b depth p) (header_in file depth)

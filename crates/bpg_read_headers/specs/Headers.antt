@@ -1,21 +1,17 @@
 -- What reading a header answers (document 01, "Order of the file", item 6).
 use Rattle.std.specs.Prelude.{List, ℕ, ◌*◌, leb, length, drop}
-use Rattle.bpg_codec.specs.Outcome.{Outcome, ok, error, ◌>>=◌, guard, Decoded, decoded}
+use Rattle.bpg_codec.specs.Outcome.{Outcome, ok, ◌>>=◌, guard, Decoded, decoded}
 use Rattle.bpg_codec.specs.Bits.{is_padding, unpack}
-use Rattle.bpg_bytes.specs.Positions.{byte_pos}
+use Rattle.bpg_bytes.specs.declared.position.BytePos.{BytePos}
+use Rattle.bpg_bytes.specs.declared.position.Located.{Located}
 use Rattle.bpg_format.specs.Limits.{max_file}
 use Rattle.bpg_format.specs.declared.record.Header.{Header}
-use Rattle.bpg_format.specs.Zero.{zero_header}
 use Rattle.bpg_format.specs.Tests.{no_forbidden_bit, hevc_allowed}
 use Rattle.bpg_format.specs.Read.{read_fields, read_header}
-use Rattle.bpg_read_headers.specs.declared.header.HeaderReading.{HeaderReading}
 
-abbrev pub refused_header : (status offset : ℕ) → HeaderReading
-refused_header s o = record { status = s; offset = byte_pos o; header = zero_header; next = byte_pos 0 }
-
-abbrev pub header_answer : Outcome (Decoded ℕ Header) → HeaderReading
-header_answer (ok x) = record { status = 0; offset = byte_pos 0; header = x.value; next = byte_pos x.next }
-header_answer (error s o) = refused_header s o
+-- a header and the offset after it
+abbrev pub header_at : Located Header BytePos → Header × ℕ
+header_at x = (x.value, x.next.0)
 
 -- what `read_header` does after the length, which stands at p: the fields begin at `start` and take up the region
 unfoldable pub fields_in : (region : List ℕ) (depth p start : ℕ) → Outcome (Decoded ℕ Header)

@@ -14,13 +14,13 @@ use Rattle.bpg_read_list.specs.Surveyed.{first_numbers, survey_numbers}
 module _ (len : ℕ) (s : FileSurvey) where
   -- with the coded size as it was computed
   abbrev pub last : (width height : ℕ) → List ℕ
-  last w h = s.rest.both.next.0 ∷ (len - s.rest.both.next.0) ∷ w ∷ h ∷ s.rest.block.entry_count ∷ []
+  last w h = s.rest.headers.next.0 ∷ (len - s.rest.headers.next.0) ∷ w ∷ h ∷ s.rest.block.entry_count ∷ []
 
   abbrev pub parts : (width height : ℕ) → List ℕ
-  parts w h = ((first_numbers s.head s.rest.block.animation ++ header_numbers s.rest.both.alpha) ++ header_numbers s.rest.both.color) ++ last w h
+  parts w h = ((first_numbers s.head s.rest.block.animation ++ header_numbers s.rest.headers.value.alpha) ++ header_numbers s.rest.headers.value.color) ++ last w h
 
   abbrev coded : ℕ → ℕ
-  coded = coded_size s.rest.both.color
+  coded = coded_size s.rest.headers.value.color
 
   parts_are : parts (coded s.head.picture_width) (coded s.head.picture_height) ≡ survey_numbers len s
   unfolding fixed_numbers headers_numbers

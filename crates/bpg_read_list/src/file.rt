@@ -1,7 +1,7 @@
 // Reading a file into the list of its record. The entries are read a second time and written where they stay: there is no array of them between. A payload's
 // start and the tag offset are taken from the positions, not from the entry: that is answered through memory, where the compiler would load two adjacent
 // fields at once and wait for both stores.
-ghost use Rattle.std.specs.Prelude.{◌≡◌, [], ◌∷◌, ◌≤◌, length as count};
+ghost use Rattle.std.specs.Prelude.{◌≡◌, [], ◌∷◌, ◌≤◌, length as count, option_copied};
 ghost use Rattle.bpg_codec.specs.Buffer.{written};
 ghost use Rattle.bpg_format.specs.Limits.{max_entries};
 ghost use Rattle.bpg_format.specs.Write.{written_answer, written_buffer};
@@ -10,10 +10,12 @@ ghost use Rattle.bpg_export_list.specs.Numbers.{list_length};
 ghost use Rattle.bpg_export_list.specs.Calls.{listed};
 
 use crate::fixed::put_fixed;
+use bpg_bytes::BytePos;
 use bpg_export_list::{FIXED, put};
-use bpg_format::{Written, written_refused};
+use bpg_format::Written;
 use bpg_read_entries::entry;
 use bpg_read_survey::survey;
+use bpg_refusal::Reason;
 
 // The numbers of entry k, in its place.
 fn put_entry(out: &mut [u64], k: usize, tag: u32, start: usize, length: u32, tag_offset: usize)
@@ -26,35 +28,27 @@ fn put_entry(out: &mut [u64], k: usize, tag: u32, start: usize, length: u32, tag
 
 // The numbers of a file's reading, or of reading on from the list of its head, from the start of `numbers`: those in use, and what stands after them is
 // left. A refusal leaves the whole list.
-pub fn read(file: &[u8], given: &[u64], is_given: bool, numbers: &mut [u64]) -> Written
-    ensures value { result ≡ written_answer (listed (count numbers.old) (either_reading is_given given.now file.now)) }
-    ensures numbers_after { numbers.new ≡ written_buffer (listed (count numbers.old) (either_reading is_given given.now file.now)) numbers.old }
+pub fn read(file: &[u8], given: Option<&[u64]>, numbers: &mut [u64]) -> Written
+    ensures value { result ≡ written_answer (listed (count numbers.old) (either_reading (option_copied given.entry) file.now)) }
+    ensures numbers_after { numbers.new ≡ written_buffer (listed (count numbers.old) (either_reading (option_copied given.entry) file.now)) numbers.old }
 {
-    let found = survey(file, given, is_given);
-    let head = found.head;
-    let rest = found.rest;
-    if rest.status != 0 {
-        return written_refused(rest.status, rest.offset.0);
-    }
-    let used = rest.block.entry_count as usize;
+    let found = match survey(file, given) {
+        Ok(found) => found,
+        Err(refusal) => return Written::refused(refusal),
+    };
+    let used = found.rest.block.entry_count as usize;
     if numbers.len() < FIXED + 4 * used {
-        return written_refused(20, 0);
+        return Written::refused(Reason::BufferTooSmall.at(BytePos(0)));
     }
     put_fixed(numbers, file.len(), found);
-    let end = head.end.0 + head.extension_length as usize;
-    let mut next = head.end;
-    let mut k: usize = 0;
-    while k < used {
-        let step = entry::read_checked(&file[0..end], next);
-        let length = step.entry.payload.length;
+    let end = found.head.end.0 + found.head.extension_length as usize;
+    let mut next = found.head.end;
+    for k in 0..used {
+        let step = entry::read_checked(&file[..end], next).unwrap();
+        let length = step.value.payload.length;
         let start = step.next.0 - length as usize;
-        put_entry(numbers, k, step.entry.tag, start, length, next.0);
+        put_entry(numbers, k, step.value.tag, start, length, next.0);
         next = step.next;
-        k += 1;
     }
-    Written {
-        status: 0,
-        offset: 0,
-        count: FIXED + 4 * used,
-    }
+    Written::of(FIXED + 4 * used)
 }

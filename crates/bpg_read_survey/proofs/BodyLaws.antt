@@ -1,34 +1,41 @@
 -- Reading the body of a file: what is known after each step, and what a refusal there answers.
-use mathlib.Core.Path.{◌≡◌, refl, sym, ap, ◌∙◌, subst}
-use mathlib.Core.Logic.{◌≢◌}
-use mathlib.Core.Bool.{true, false, not, ◌||◌}
+use mathlib.Core.Path.{◌≡◌, refl, sym, ap, ap₂, ◌∙◌}
+use mathlib.Core.Bool.{Bool, true, false, not, ◌||◌}
 use mathlib.Core.List.{List}
 use Prim.Native.Nat.{ℕ, ◌-◌, ◌≤◌}
 use native.Mathlib.Omega.{arith}
 use lib.Dec.{leb, leb→le}
 use lib.ListN.{length, take, drop, length-drop}
 use lib.Seq.{take-length}
-use native.Mathlib.Decide.{ℕ_discrete}
-use borrow.Author.Tests.{eq-eqb, ne_eqb}
-use Rattle.bpg_codec.specs.Outcome.{ok, error, ◌>>=◌}
-use Rattle.bpg_codec.proofs.Select.{select-true, select-false}
-use Rattle.bpg_codec.proofs.Answers.{refused-error, accepted-value}
-use Rattle.bpg_codec.proofs.Outcome.{unguard}
+use Rattle.std.specs.Prelude.{Some, None}
+use Rattle.std.specs.Option.{is_some}
+use Rattle.bpg_codec.specs.Select.{select}
+use Rattle.bpg_codec.specs.Outcome.{Outcome, ok, error, ◌>>=◌}
+use Rattle.bpg_codec.proofs.Outcome.{error-not-ok, ok-injective, unguard}
+use Rattle.bpg_bytes.specs.declared.position.BytePos.{BytePos}
+use Rattle.bpg_bytes.specs.declared.position.Located.{Located}
 use Rattle.bpg_format.specs.Content.{Extension}
 use Rattle.bpg_format.specs.Rules.{has_animation}
 use Rattle.bpg_format.specs.Tests.{counts_to_end, data_allowed}
-use Rattle.bpg_format.specs.Read.{Head, read_block, read_body, read_content, ReadingStatus}
-use Rattle.bpg_format.proofs.RuleLaws.{by-tag}
-use Rattle.bpg_format.proofs.ReadingRefusals.{content-refuses}
+use Rattle.bpg_format.specs.Read.{Head, read_block, read_body}
 use Rattle.bpg_read_entries.specs.declared.block.Block.{Block}
-use Rattle.bpg_read_entries.specs.Blocks.{block_answer}
-use Rattle.bpg_read_headers.specs.declared.headers.HeadersReading.{HeadersReading}
-use Rattle.bpg_read_headers.specs.BothHeaders.{headers_answer}
-use Rattle.bpg_read_survey.specs.Bodies.{HeadRead, headers_start, body_content, stop, after_headers}
-use Rattle.bpg_read_survey.specs.Surveys.{refused_survey, survey_of}
-use Rattle.bpg_read_survey.specs.declared.rest.Stop.{Stop}
-use Rattle.bpg_read_survey.proofs.ContentSteps.{content-body}
+use Rattle.bpg_read_entries.specs.Blocks.{block_of, block_answer}
+use Rattle.bpg_read_headers.specs.declared.headers.Headers.{Headers}
+use Rattle.bpg_read_headers.specs.BothHeaders.{headers_at}
+use Rattle.bpg_read_survey.specs.Bodies.{HeadRead, headers_start}
+use Rattle.bpg_read_survey.specs.Surveys.{survey_of}
+use Rattle.bpg_read_survey.specs.declared.rest.RestSurvey.{RestSurvey}
 use Rattle.bpg_read_survey.proofs.BodyChain.{headers_of, from_data, from_headers, after_block, headers-inside, body-chain}
+
+-- ---- what was read, of an answer for it
+
+pub unanswered : {A B : Type 0} (m : Outcome A) (f : A → B) (s o : ℕ) → error s o ≡ (m >>= λ a. ok (f a)) → m ≡ error s o
+unanswered (ok a) f s o e = absurd (error-not-ok e)
+unanswered (error t p) f s o e = cc
+
+pub answered : {A B P : Type 0} (m : Outcome A) (f : A → B) (b : B) → ok b ≡ (m >>= λ a. ok (f a)) → ((a : A) → m ≡ ok a → b ≡ f a → P) → P
+answered (ok a) f b e g = g a refl (ok-injective e)
+answered (error s o) f b e g = absurd (error-not-ok (sym e))
 
 -- ---- the block
 
@@ -36,19 +43,13 @@ use Rattle.bpg_read_survey.proofs.BodyChain.{headers_of, from_data, from_headers
 pub record BlockRead (file : List ℕ) (h : Head) (b : Block) : Type 0 where
   pub head : HeadRead file h
   pub entries : List Extension
-  pub is : b ≡ block_answer (ok entries)
+  pub is : b ≡ block_of entries
   pub inside : headers_start h ≤ length file
   pub left : read_body h (drop h.end file) ≡ after_block file h entries
 
 module _ {file : List ℕ} {h : Head} (k : HeadRead file h) where
   abbrev after : List ℕ
   after = drop h.end file
-
-  content-is : read_content file ≡ read_body h after
-  content-is = content-body file k.short h k.read
-
-  not-zero : (s o : ℕ) → read_body h after ≡ error s o → s ≢ 0
-  not-zero s o e z = subst ReadingStatus z (content-refuses file s o (content-is ∙ e))
 
   chain : read_body h after ≡ (read_block h after >>= after_block file h)
   chain = body-chain file k.short h
@@ -59,14 +60,12 @@ module _ {file : List ℕ} {h : Head} (k : HeadRead file h) where
       unguard (leb h.extension_length (length after)) 2 h.extension_length_at _ e λ t _.
       omega (arith, leb→le h.extension_length (length after) t, length-drop h.end file)
 
-  module _ (b : Block) (e : b ≡ block_answer (read_block h after)) where
-    pub block_refused : b.status ≢ 0 → refused_survey b.status b.offset.0 ≡ survey_of (length file) (read_body h after)
-    block_refused n = refused-error block_answer (λ r. r.status) (λ _. refl) (λ _ _. refl) (read_block h after) b e n λ s o w. rw (chain, e, w)
+  pub block_refused : (s o : ℕ) → error s o ≡ block_answer (read_block h after) → error s o ≡ survey_of (length file) (read_body h after)
+  block_refused s o e = let w = unanswered (read_block h after) block_of s o e in rw (chain, w)
 
-    pub block_read : b.status ≡ 0 → BlockRead file h b
-    block_read z =
-        accepted-value block_answer (λ r. r.status) (λ _. refl) (λ _ _. refl) (read_block h after) b e z (λ s o w. not-zero s o (chain ∙ rw w)) λ es w.
-        record { head = k; entries = es; is = e ∙ ap block_answer w; inside = block_inside es w; left = chain ∙ rw w }
+  pub block_read : (b : Block) → ok b ≡ block_answer (read_block h after) → BlockRead file h b
+  block_read b e =
+      answered (read_block h after) block_of b e λ es w i. record { head = k; entries = es; is = i; inside = block_inside es w; left = chain ∙ rw w }
 
 -- ---- 14, then 10
 
@@ -75,86 +74,57 @@ pub record AtHeaders (file : List ℕ) (h : Head) (b : Block) : Type 0 where
   pub block : BlockRead file h b
   pub left : read_body h (drop h.end file) ≡ from_headers file h block.entries
 
-module _ {file : List ℕ} {h : Head} {b : Block} (k : BlockRead file h b) where
-  animated : has_animation k.entries ≡ b.animated
-  animated = ap (λ (x : Block). x.animated) (sym k.is)
+is_some-select : {A : Type 0} (t : Bool) (a : A) → is_some (select t (Some a) None) ≡ t
+unfolding select
+is_some-select true a = refl
+is_some-select false a = refl
 
-  pub no-control : (not h.flags.animation || b.animated) ≡ false → refused_survey 14 5 ≡ survey_of (length file) (read_body h (drop h.end file))
-  no-control a = rw (k.left, animated, a)
+module _ {file : List ℕ} {h : Head} {b : Block} (k : BlockRead file h b) (animated : Bool) (is : animated ≡ is_some b.animation) where
+  has : has_animation k.entries ≡ animated
+  has = sym (is ∙ ap (λ (x : Block). is_some x.animation) k.is ∙ is_some-select (has_animation k.entries) _)
 
-  module _ (control : (not h.flags.animation || b.animated) ≡ true) where
+  pub no-control : (not h.flags.animation || animated) ≡ false → error 14 5 ≡ survey_of (length file) (read_body h (drop h.end file))
+  no-control a = rw (k.left, has, a)
+
+  module _ (control : (not h.flags.animation || animated) ≡ true) where
     pub length-misses : counts_to_end h.data_length (length file - headers_start h) ≡ false
-        → refused_survey 10 h.data_length_at ≡ survey_of (length file) (read_body h (drop h.end file))
-    length-misses a = rw (k.left, animated, control, a)
+        → error 10 h.data_length_at ≡ survey_of (length file) (read_body h (drop h.end file))
+    length-misses a = rw (k.left, has, control, a)
 
     pub at-headers : counts_to_end h.data_length (length file - headers_start h) ≡ true → AtHeaders file h b
-    at-headers a = record { block = k; left = k.left ∙ rw (animated, control, a) }
+    at-headers a = record { block = k; left = k.left ∙ rw (has, control, a) }
 
 -- ---- the headers
 
 -- they were read, and the data follows them
-pub record HeadersRead (file : List ℕ) (h : Head) (b : Block) (x : HeadersReading) : Type 0 where
+pub record HeadersRead (file : List ℕ) (h : Head) (b : Block) (x : Located Headers BytePos) : Type 0 where
   pub block : BlockRead file h b
-  pub is : x ≡ headers_answer (ok (x.alpha, x.color, x.next.0))
   pub inside : x.next.0 ≤ length file
-  pub left : read_body h (drop h.end file) ≡ from_data file h block.entries x.alpha x.color x.next.0
+  pub left : read_body h (drop h.end file) ≡ from_data file h block.entries x.value.alpha x.value.color x.next.0
 
-module _ {file : List ℕ} {h : Head} {b : Block} (k : AtHeaders file h b) (x : HeadersReading) (e : x ≡ headers_answer (headers_of file h)) where
-  pub headers-refused : x.status ≢ 0 → refused_survey x.status x.offset.0 ≡ survey_of (length file) (read_body h (drop h.end file))
-  headers-refused n = refused-error headers_answer (λ r. r.status) (λ _. refl) (λ _ _. refl) (headers_of file h) x e n λ s o w. rw (k.left, e, w)
+module _ {file : List ℕ} {h : Head} {b : Block} (k : AtHeaders file h b) where
+  pub headers-refused : (s o : ℕ) → error s o ≡ headers_of file h → error s o ≡ survey_of (length file) (read_body h (drop h.end file))
+  headers-refused s o e = rw (k.left, ← e)
 
-  pub headers-read : x.status ≡ 0 → HeadersRead file h b x
-  headers-read z =
-      accepted-value headers_answer (λ r. r.status) (λ _. refl) (λ _ _. refl) (headers_of file h) x e z
-      (λ s o w. not-zero k.block.head s o (k.left ∙ rw w)) λ y w.
-      subst (HeadersRead file h b) (sym (e ∙ ap headers_answer w))
-      (record { block = k.block; is = refl; inside = headers-inside file k.block.head.short h k.block.inside y w; left = k.left ∙ rw w })
+  pub headers-read : (x : Located Headers BytePos) → ok (headers_at x) ≡ headers_of file h → HeadersRead file h b x
+  headers-read x e =
+      record { block = k.block; inside = headers-inside file k.block.head.short h k.block.inside (headers_at x) (sym e); left = k.left ∙ rw (← e) }
 
 -- ---- 26
-
--- the data is allowed, and so the whole body was read
-pub record BodyRead (file : List ℕ) (h : Head) (b : Block) (x : HeadersReading) : Type 0 where
-  pub block : BlockRead file h b
-  pub is : x ≡ headers_answer (ok (x.alpha, x.color, x.next.0))
-  pub inside : x.next.0 ≤ length file
-  pub left : read_body h (drop h.end file) ≡ ok (body_content h block.entries x.alpha x.color (drop x.next.0 file))
 
 -- a slice to the end is what is left
 pub to_end : (file : List ℕ) (p : ℕ) → take (length file - p) (drop p file) ≡ drop p file
 to_end file p = rw (← length-drop p file) (take-length (drop p file))
 
-module _ (file : List ℕ) (s o p : ℕ) where
-  pub stops-there : s ≢ 0 → stop s o ≡ after_headers file s o p
-  stops-there n = sym (select-false _ _ (ne_eqb s 0 n))
+module _ {file : List ℕ} {h : Head} {b : Block} {x : Located Headers BytePos} (k : HeadersRead file h b x) where
+  pub data-stops : data_allowed (drop x.next.0 file) ≡ false → error 26 x.next.0 ≡ survey_of (length file) (read_body h (drop h.end file))
+  data-stops a = rw (k.left, a)
 
-  module _ (z : s ≡ 0) where
-    pub data-stops : data_allowed (drop p file) ≡ false → stop 26 p ≡ after_headers file s o p
-    data-stops a = sym (select-true _ _ (eq-eqb s 0 z) ∙ select-false _ _ a)
+  abbrev found : Block → ℕ → RestSurvey
+  found b n = record { block = b; headers = record { value = x.value; next = record { 0 = n } } }
 
-    pub goes_on : data_allowed (drop p file) ≡ true → stop 0 0 ≡ after_headers file s o p
-    goes_on a = sym (select-true _ _ (eq-eqb s 0 z) ∙ select-true _ _ a)
-
-module _ {file : List ℕ} {h : Head} {b : Block} (k : AtHeaders file h b) (x : HeadersReading) (e : x ≡ headers_answer (headers_of file h))
-    (t : Stop) (w : t ≡ after_headers file x.status x.offset.0 x.next.0) where
-  -- by whether the headers were refused, and the data
-  by-stop : {P : Type 0} → (x.status ≢ 0 → t ≡ stop x.status x.offset.0 → P)
-      → (x.status ≡ 0 → data_allowed (drop x.next.0 file) ≡ false → t ≡ stop 26 x.next.0 → P)
-      → (x.status ≡ 0 → data_allowed (drop x.next.0 file) ≡ true → t ≡ stop 0 0 → P) → P
-  by-stop f g j =
-      elim (ℕ_discrete x.status 0) [
-        | no n ↦ f n (w ∙ sym (stops-there file x.status x.offset.0 x.next.0 n))
-        | yes z ↦
-            by-tag (data_allowed (drop x.next.0 file))
-            (λ a. j z a (w ∙ sym (goes_on file x.status x.offset.0 x.next.0 z a)))
-            (λ a. g z a (w ∙ sym (data-stops file x.status x.offset.0 x.next.0 z a)))
-      ]
-
-  pub stopped : t.status ≢ 0 → refused_survey t.status t.offset.0 ≡ survey_of (length file) (read_body h (drop h.end file))
-  stopped n =
-      by-stop (λ m q. rw q (headers-refused k x e m)) (λ z a q. rw (q, (headers-read k x e z).left, a))
-      (λ z a q. absurd (n (ap (λ (y : Stop). y.status) q)))
-
-  pub body-known : t.status ≡ 0 → BodyRead file h b x
-  body-known z =
-      by-stop (λ m q. absurd (m (sym (ap (λ (y : Stop). y.status) q) ∙ z))) (λ y a q. absurd (omega (arith, z, ap (λ (y : Stop). y.status) q)))
-      (λ y a q. let r = headers-read k x e y in record { block = r.block; is = r.is; inside = r.inside; left = r.left ∙ rw a })
+  -- the data is allowed, and so the whole body was read
+  pub body_read : data_allowed (drop x.next.0 file) ≡ true → ok (record { block = b; headers = x }) ≡ survey_of (length file) (read_body h (drop h.end file))
+  body_read a =
+      let n : length file - length (drop x.next.0 file) ≡ x.next.0 = omega (arith, length-drop x.next.0 file, k.inside) in
+      rw (k.left, a) (ap₂ (λ (c : Block) (m : ℕ). ok (found c m)) k.block.is (sym n))

@@ -1,50 +1,32 @@
 -- A file that was surveyed: what its body was read as, and its content.
-use mathlib.Core.Path.{◌≡◌, refl, sym, ap, ap₂, ◌∙◌, subst}
+use mathlib.Core.Path.{◌≡◌, refl, sym, ap, ◌∙◌, subst}
 use mathlib.Core.Bool.{Bool, not, ◌||◌}
-use mathlib.Core.Logic.{◌≢◌}
 use mathlib.Core.List.{List}
-use Prim.Native.Nat.{ℕ, ◌+◌, ◌-◌, ◌≤◌}
+use Prim.Native.Nat.{ℕ, ◌+◌, ◌≤◌}
 use native.Mathlib.Omega.{arith}
-use lib.ListN.{length, drop, length-drop}
-use Rattle.bpg_codec.specs.Outcome.{Outcome, ok}
+use lib.ListN.{length, drop}
+use Rattle.bpg_codec.specs.Outcome.{Outcome, ok, error}
 use Rattle.bpg_codec.specs.Lawful.{All, Byte}
-use Rattle.bpg_codec.proofs.Outcome.{ok-injective, unbind, unguard}
-use Rattle.bpg_codec.proofs.Answers.{refused-error, accepted-value}
-use Rattle.bpg_bytes.specs.Positions.{byte_pos}
+use Rattle.bpg_codec.proofs.Outcome.{error-not-ok, ok-injective, unbind, unguard}
 use Rattle.bpg_format.specs.Limits.{max_file}
-use Rattle.bpg_format.specs.Zero.{refused_reading}
 use Rattle.bpg_format.specs.Content.{Content, bit_depth}
 use Rattle.bpg_format.specs.Syntax.{file_of}
 use Rattle.bpg_format.specs.Rules.{has_animation, Rules}
 use Rattle.bpg_format.specs.Tests.{counts_to_end, data_allowed}
 use Rattle.bpg_format.specs.Read.{Head, read_head, read_block, read_alpha_header, read_header, read_body, read_content}
-use Rattle.bpg_format.specs.Records.{block_start, data_start, answer_of}
+use Rattle.bpg_format.specs.Records.{block_start, data_start}
 use Rattle.bpg_format.proofs.RangeLaws.{data-end}
 use Rattle.bpg_format.proofs.ReadingLaws.{read_is}
 use Rattle.bpg_read_head.specs.declared.head.Head.{Head as PlacedHead}
-use Rattle.bpg_read_head.specs.Heads.{head_answer}
-use Rattle.bpg_read_entries.specs.declared.block.Block.{Block}
-use Rattle.bpg_read_headers.specs.declared.headers.HeadersReading.{HeadersReading}
-use Rattle.bpg_read_headers.specs.BothHeaders.{headers_answer}
+use Rattle.bpg_read_head.specs.Heads.{head_fields}
 use Rattle.bpg_head_rules.specs.declared.CodedHead.{CodedHead}
 use Rattle.bpg_read_survey.specs.declared.rest.RestSurvey.{RestSurvey}
 use Rattle.bpg_read_survey.specs.declared.given.FileSurvey.{FileSurvey}
 use Rattle.bpg_read_survey.specs.Given.{read_given}
-use Rattle.bpg_read_survey.specs.Bodies.{head_fields, body_content}
-use Rattle.bpg_read_survey.specs.Surveys.{survey_of, file_survey}
+use Rattle.bpg_read_survey.specs.Bodies.{body_content}
+use Rattle.bpg_read_survey.specs.Surveys.{rest_of, survey_parts, file_survey}
 use Rattle.bpg_read_survey.proofs.HeadOf.{head_of, head-of}
-use Rattle.bpg_read_survey.proofs.BodyLaws.{BodyRead}
-use Rattle.bpg_read_survey.proofs.GivenLaws.{given-accepted, given-not-zero}
-
--- ---- the answer for a body that was read
-
-abbrev pub found : Block → HeadersReading → RestSurvey
-found b x = record { status = 0; offset = byte_pos 0; block = b; both = x }
-
-pub body-survey : {file : List ℕ} {h : Head} {b : Block} {x : HeadersReading} → BodyRead file h b x → found b x ≡ survey_of (length file) (read_body h (drop h.end file))
-body-survey {file} {h} {b} {x} k =
-    let n : length file - length (drop x.next.0 file) ≡ x.next.0 = omega (arith, length-drop x.next.0 file, k.inside) in
-    ap₂ found k.block.is (k.is ∙ ap (λ (m : ℕ). headers_answer (ok (x.alpha, x.color, m))) (sym n)) ∙ ap (survey_of (length file)) (sym k.left)
+use Rattle.bpg_read_survey.proofs.GivenLaws.{given-accepted}
 
 -- ---- a file whose body was read
 
@@ -69,35 +51,50 @@ pub record FileRead (file : List ℕ) (head : PlacedHead) (s : RestSurvey) : Typ
   pub is : file ≡ file_of content
   pub read : read_content file ≡ ok content
   pub heads : head_fields head ≡ head_of content
-  pub survey : s ≡ survey_of (length file) (ok content)
+  pub survey : s ≡ rest_of (length file) content
 
-module _ (is_own : CodedHead → Bool) (file : List ℕ) (s : FileSurvey) (e : s ≡ file_survey file (read_given is_own file)) where
-  abbrev rest-is : s.rest ≡ survey_of (length file) (read_given is_own file)
-  rest-is = ap (λ (x : FileSurvey). x.rest) e
+module _ (is_own : CodedHead → Bool) (file : List ℕ) where
+  abbrev read : Outcome Content
+  read = read_given is_own file
 
-  pub survey-refused : s.rest.status ≢ 0 → refused_reading s.rest.status s.rest.offset.0 ≡ answer_of (read_given is_own file)
-  survey-refused n =
-      refused-error (survey_of (length file)) (λ r. r.status) (λ _. refl) (λ _ _. refl) (read_given is_own file) s.rest rest-is n λ t o w.
-      ap (λ (y : RestSurvey). refused_reading y.status y.offset.0) (rest-is ∙ ap (survey_of (length file)) w) ∙ ap answer_of (sym w)
+  -- a file with a content has a head
+  whole : (c : Content) → read ≡ ok c → (h : Head) → read_head file ≡ ok h → file_survey file read ≡ ok (h, rest_of (length file) c)
+  whole c w h e = rw (w, e)
 
-  module _ (bytes : All Byte file) (z : s.rest.status ≡ 0) where
-    pub survey-read : FileRead file s.head s.rest × (read_given is_own file ≡ read_content file)
-    survey-read =
-        accepted-value (survey_of (length file)) (λ r. r.status) (λ _. refl) (λ _ _. refl) (read_given is_own file) s.rest rest-is z (given-not-zero is_own file) λ c w.
-        given-accepted is_own file c w λ h head_read read-body read.
-        let r = read_is file bytes c read in
-        let head : head_fields s.head ≡ h = ap (λ (x : FileSurvey). head_fields x.head) e ∙ ap (λ (o : Outcome Head). head_fields (head_answer o)) head_read in (
+  pub survey-refused : (s o : ℕ) → error s o ≡ file_survey file read → read ≡ error s o
+  survey-refused s o e = by read refl
+    where
+      by : (m : Outcome Content) → read ≡ m → read ≡ error s o
+      by (ok c) w = given-accepted is_own file c w λ h head_read _ _. absurd (error-not-ok (e ∙ whole c w h head_read))
+      by (error t p) w =
+          let e2 : ◌≡◌ {A = Outcome (Head × RestSurvey)} (error s o) (error t p) = e ∙ ap (file_survey file) w in
+          w ∙ cc
+
+  module _ (bytes : All Byte file) (s : FileSurvey) (e : ok (survey_parts s) ≡ file_survey file read) where
+    accepted : (c : Content) → read ≡ ok c → FileRead file s.head s.rest × (read ≡ read_content file)
+    accepted c w =
+        given-accepted is_own file c w λ h head_read read-body content_read.
+        let r = read_is file bytes c content_read in
+        let parts : survey_parts s ≡ (h, rest_of (length file) c) = ok-injective (e ∙ whole c w h head_read) in
+        let head : head_fields s.head ≡ h = ap (λ (x : Head × RestSurvey). x.0) parts in (
           record {
             content = c;
             made = subst (λ (x : Head). c ≡ body_content x c.extensions c.alpha_header c.color_header c.hevc_data) (sym head) (body-fields h (drop h.end file) c read-body);
             rules = r.0;
             is = r.1;
-            read = read;
+            read = content_read;
             heads = head ∙ ok-injective (sym head_read ∙ ap read_head r.1 ∙ head-of c r.0);
-            survey = rest-is ∙ ap (survey_of (length file)) w;
+            survey = ap (λ (x : Head × RestSurvey). x.1) parts;
           },
-          w ∙ sym read,
+          w ∙ sym content_read,
         )
+
+    pub survey-read : FileRead file s.head s.rest × (read ≡ read_content file)
+    survey-read = by read refl
+      where
+        by : (m : Outcome Content) → read ≡ m → FileRead file s.head s.rest × (read ≡ read_content file)
+        by (ok c) w = accepted c w
+        by (error t p) w = absurd (error-not-ok (sym (e ∙ ap (file_survey file) w)))
 
 module _ {file : List ℕ} {head : PlacedHead} {s : RestSurvey} (k : FileRead file head s) where
   abbrev c : Content
@@ -115,9 +112,9 @@ module _ {file : List ℕ} {head : PlacedHead} {s : RestSurvey} (k : FileRead fi
   pub short : length file ≤ max_file
   short = omega (arith, ap length k.is, k.rules.size)
 
-  pub data-inside : s.both.next.0 ≤ length file
-  data-inside = subst (λ (y : RestSurvey). y.both.next.0 ≤ length file) (sym k.survey) (omega arith)
+  pub data-inside : s.headers.next.0 ≤ length file
+  data-inside = subst (λ (y : RestSurvey). y.headers.next.0 ≤ length file) (sym k.survey) (omega arith)
 
-  pub min-cb-small : s.both.color.log2_min_luma_coding_block_size_minus3 ≤ 3
+  pub min-cb-small : s.headers.value.color.log2_min_luma_coding_block_size_minus3 ≤ 3
   min-cb-small =
-      subst (λ (y : RestSurvey). y.both.color.log2_min_luma_coding_block_size_minus3 ≤ 3) (sym k.survey) (omega (arith, k.rules.color-header.hevc.ctb-most))
+      subst (λ (y : RestSurvey). y.headers.value.color.log2_min_luma_coding_block_size_minus3 ≤ 3) (sym k.survey) (omega (arith, k.rules.color-header.hevc.ctb-most))

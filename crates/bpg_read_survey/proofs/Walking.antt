@@ -1,5 +1,5 @@
 -- A walk over the entries of an accepted file, which reads them again one by one.
-use mathlib.Core.Path.{◌≡◌, sym, ap, ap₂, ◌∙◌, subst}
+use mathlib.Core.Path.{◌≡◌, refl, sym, ap, ap₂, ◌∙◌, subst}
 use mathlib.Core.List.{List, [], ◌∷◌, ◌++◌}
 use Prim.Native.Nat.{ℕ, ◌+◌, ◌-◌, ◌^◌, ◌≤◌, ◌<◌}
 use native.Mathlib.Numerals.{add-one}
@@ -17,7 +17,12 @@ use Rattle.bpg_format.specs.Read.{Head, read_content}
 use Rattle.bpg_format.specs.Records.{entries_at}
 use Rattle.bpg_format.proofs.RecordLaws.{before_entries, file-entries, before-length, entries-length}
 use Rattle.bpg_read_head.specs.declared.head.Head.{Head as PlacedHead}
-use Rattle.bpg_read_entries.specs.declared.entry.EntryReading.{EntryReading}
+use Rattle.std.specs.Prelude.{Result, Ok, Err, IsOk}
+use Rattle.bpg_codec.proofs.Outcome.{error-not-ok}
+use Rattle.bpg_bytes.specs.declared.position.BytePos.{BytePos}
+use Rattle.bpg_bytes.specs.declared.position.Located.{Located}
+use Rattle.bpg_refusal.specs.declared.Refusal.{Refusal}
+use Rattle.bpg_refusal.specs.Outcomes.{outcome}
 use Rattle.bpg_read_entries.specs.Entries.{found_entry, entry_head_answer, entry_in}
 use Rattle.bpg_read_entries.proofs.LastEntry.{entries-snoc, bytes-snoc}
 use Rattle.bpg_read_entries.proofs.Ahead.{Ahead, tags-fit, small, entry-ahead, past, more-ahead}
@@ -88,7 +93,7 @@ module _ {file : List ℕ} {count end p next k : ℕ} (v : Walking file count en
   abbrev pub passed : List Entry
   passed = entries_at p (take k es)
 
-  module _ (h : k < count) (t : EntryReading) (e : t ≡ entry_head_answer next (entry_in (take end file) next)) where
+  module _ (h : k < count) where
     x : Extension
     x = get_or es k (record { tag = 0; payload = [] })
 
@@ -107,56 +112,66 @@ module _ {file : List ℕ} {count end p next k : ℕ} (v : Walking file count en
     abbrev start : ℕ
     start = next + length (ue7_bytes x.tag) + length (ue7_bytes (length x.payload))
 
-    found : t ≡ found_entry next x.tag start (length x.payload)
-    found = e ∙ ap (entry_head_answer next) (entry-ahead (take end file) next x (drop (k + 1) es) here)
+    there : entry_head_answer next (entry_in (take end file) next) ≡ ok (found_entry next x.tag start (length x.payload))
+    there = ap (entry_head_answer next) (entry-ahead (take end file) next x (drop (k + 1) es) here)
 
-    -- its range by where it ends, and its tag's offset by where it begins
-    pub ends-inside : t.entry.payload.length ≤ t.next.0
-    ends-inside = omega (arith, ap (λ (y : EntryReading). y.next.0) found, ap (λ (y : EntryReading). y.entry.payload.length) found)
-
-    pub length-small : t.entry.payload.length < 2 ^ 32
-    length-small = omega (arith, small (take end file) next x (drop (k + 1) es) here, ap (λ (y : EntryReading). y.entry.payload.length) found)
-
-    pub start_is : t.entry.payload.start ≡ t.next.0 - t.entry.payload.length
-    start_is =
-        omega (
-          arith,
-          ap (λ (y : EntryReading). y.next.0) found,
-          ap (λ (y : EntryReading). y.entry.payload.start) found,
-          ap (λ (y : EntryReading). y.entry.payload.length) found,
-        )
-
-    pub tag-offset-is : t.entry.tag_offset ≡ next
-    tag-offset-is = ap (λ (y : EntryReading). y.entry.tag_offset) found
-
-    next-is : t.next.0 ≡ next + length (extension_bytes x)
-    next-is = ap (λ (y : EntryReading). y.next.0) found ∙ past (take end file) next x (drop (k + 1) es) here
-
-    at_next : t.next.0 ≡ p + length (block_bytes (take (k + 1) es))
-    at_next = omega (arith, next-is, v.at, bytes-snoc x (take k es), ap (λ (l : List Extension). length (block_bytes l)) taken)
-
-    entry-is : t.entry ∷ [] ≡ entries_at (p + length (block_bytes (take k es))) (x ∷ [])
-    entry-is = ap (λ (y : EntryReading). y.entry ∷ []) found ∙ ap (λ (q : ℕ). entries_at q (x ∷ [])) v.at
+    -- so it is read
+    pub entry_reads : (r : Result (Located Entry BytePos) Refusal) → outcome (λ y. y) r ≡ entry_head_answer next (entry_in (take end file) next) → IsOk r
+    entry_reads (Ok t) e = refl
+    entry_reads (Err r) e = absurd (error-not-ok (e ∙ there))
 
     pub passed-count : length passed ≡ k
     passed-count = entries-length p (take k es) ∙ length-take-le k es (omega (arith, inside))
 
-    pub walks : Walking file count end p t.next.0 (k + 1)
-    walks =
-        record {
-          content = v.content;
-          read = v.read;
-          all = v.all;
-          few = v.few;
-          most = omega arith;
-          at = at_next;
-          ahead = subst (λ (q : ℕ). Ahead (take end file) q (drop (k + 1) es)) (sym next-is) (more-ahead (take end file) next x (drop (k + 1) es) here);
-        }
+    module _ (r : Result (Located Entry BytePos) Refusal) (read : outcome (λ y. y) r ≡ entry_head_answer next (entry_in (take end file) next))
+        (t : Located Entry BytePos) (is : r ≡ Ok t) where
+      found : t ≡ found_entry next x.tag start (length x.payload)
+      found = ok-injective (ap (outcome (λ y. y)) (sym is) ∙ read ∙ there)
 
-    -- the entry that was read is the next of those that were passed
-    pub passed-next : entries_at p (take (k + 1) walks.content.extensions) ≡ passed ++ (t.entry ∷ [])
-    unfolding walks
-    passed-next = ap (entries_at p) taken ∙ entries-snoc x (take k es) p ∙ ap (λ (l : List Entry). passed ++ l) (sym entry-is)
+      -- its range by where it ends, and its tag's offset by where it begins
+      pub ends-inside : t.value.payload.length ≤ t.next.0
+      ends-inside = omega (arith, ap (λ (y : Located Entry BytePos). y.next.0) found, ap (λ (y : Located Entry BytePos). y.value.payload.length) found)
+
+      pub length-small : t.value.payload.length < 2 ^ 32
+      length-small = omega (arith, small (take end file) next x (drop (k + 1) es) here, ap (λ (y : Located Entry BytePos). y.value.payload.length) found)
+
+      pub start_is : t.value.payload.start ≡ t.next.0 - t.value.payload.length
+      start_is =
+          omega (
+            arith,
+            ap (λ (y : Located Entry BytePos). y.next.0) found,
+            ap (λ (y : Located Entry BytePos). y.value.payload.start) found,
+            ap (λ (y : Located Entry BytePos). y.value.payload.length) found,
+          )
+
+      pub tag-offset-is : t.value.tag_offset ≡ next
+      tag-offset-is = ap (λ (y : Located Entry BytePos). y.value.tag_offset) found
+
+      next-is : t.next.0 ≡ next + length (extension_bytes x)
+      next-is = ap (λ (y : Located Entry BytePos). y.next.0) found ∙ past (take end file) next x (drop (k + 1) es) here
+
+      at_next : t.next.0 ≡ p + length (block_bytes (take (k + 1) es))
+      at_next = omega (arith, next-is, v.at, bytes-snoc x (take k es), ap (λ (l : List Extension). length (block_bytes l)) taken)
+
+      entry-is : t.value ∷ [] ≡ entries_at (p + length (block_bytes (take k es))) (x ∷ [])
+      entry-is = ap (λ (y : Located Entry BytePos). y.value ∷ []) found ∙ ap (λ (q : ℕ). entries_at q (x ∷ [])) v.at
+
+      pub walks : Walking file count end p t.next.0 (k + 1)
+      walks =
+          record {
+            content = v.content;
+            read = v.read;
+            all = v.all;
+            few = v.few;
+            most = omega arith;
+            at = at_next;
+            ahead = subst (λ (q : ℕ). Ahead (take end file) q (drop (k + 1) es)) (sym next-is) (more-ahead (take end file) next x (drop (k + 1) es) here);
+          }
+
+      -- the entry that was read is the next of those that were passed
+      pub passed-next : entries_at p (take (k + 1) walks.content.extensions) ≡ passed ++ (t.value ∷ [])
+      unfolding walks
+      passed-next = ap (entries_at p) taken ∙ entries-snoc x (take k es) p ∙ ap (λ (l : List Entry). passed ++ l) (sym entry-is)
 
   -- all were passed
   pub walked : count ≤ k → (c : Content) → read_content file ≡ ok c → passed ≡ entries_at p c.extensions

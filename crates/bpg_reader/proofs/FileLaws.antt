@@ -19,7 +19,7 @@ unfolding read_file read_content
 too_long file h = rw (lt-leb (length file) max_file h)
 
 -- of bytes, the status is 0 exactly when they are an accepted file
-pub exact : (file : List ℕ) → All Byte file → (r : Reading) → r ≡ read_file file → (r ≡ read_file file) × ((r.status ≡ 0) ↔ Accepted file)
+pub exact : (file : List ℕ) → All Byte file → (r : Reading) → r ≡ read_file file → (r.status ≡ 0) ↔ Accepted file
 exact file bytes r e =
     let status = ap (λ (x : Reading). x.status) e in
-    (e, (λ z. status-accepted file bytes (sym status ∙ z), λ a. status ∙ accepted-status file a))
+    (λ z. status-accepted file bytes (sym status ∙ z), λ a. status ∙ accepted-status file a)

@@ -8,11 +8,16 @@ use Rattle.bpg_codec.specs.Outcome.{ok}
 use Rattle.bpg_format.specs.Limits.{max_entries}
 use Rattle.bpg_format.specs.declared.record.Entry.{Entry}
 use Rattle.bpg_format.specs.declared.record.Record.{Record}
+use Rattle.bpg_format.specs.declared.answer.Reading.{Reading}
 use Rattle.bpg_format.specs.Zero.{zero_entry}
 use Rattle.bpg_format.specs.Content.{Content}
 use Rattle.bpg_format.specs.Read.{read_content}
 use Rattle.bpg_format.specs.Records.{entries_at, pad_entries, with_entries}
-use Rattle.bpg_read_entries.specs.declared.entry.EntryReading.{EntryReading}
+use Rattle.std.specs.Prelude.{Result, Ok}
+use Rattle.bpg_bytes.specs.declared.position.BytePos.{BytePos}
+use Rattle.bpg_bytes.specs.declared.position.Located.{Located}
+use Rattle.bpg_refusal.specs.declared.Refusal.{Refusal}
+use Rattle.bpg_refusal.specs.Outcomes.{outcome}
 use Rattle.bpg_read_entries.specs.Entries.{entry_head_answer, entry_in}
 use Rattle.bpg_read_entries.proofs.LastEntry.{pad-snoc}
 use Rattle.bpg_read_survey.proofs.Walking.{Walking, passed, passed-count, passed-next, walks, walked}
@@ -30,19 +35,24 @@ module _ {file : List ℕ} {count end : ℕ} {first : Record} {p : ℕ} {r : Rec
   abbrev w : Walking file count end p next k
   w = v.walking
 
-  module _ (h : k < count) (t : EntryReading) (e : t ≡ entry_head_answer next (entry_in (take end file) next)) where
-    stored : set (pad_entries (passed w)) k t.entry ≡ pad_entries (passed (walks w h t e))
+  module _ (h : k < count) (x : Result (Located Entry BytePos) Refusal) (e : outcome (λ y. y) x ≡ entry_head_answer next (entry_in (take end file) next))
+      (t : Located Entry BytePos) (is : x ≡ Ok t) where
+    stored : set (pad_entries (passed w)) k t.value ≡ pad_entries (passed (walks w h x e t is))
     stored =
-        ap (λ (n : ℕ). set (pad_entries (passed w)) n t.entry) (sym (passed-count w h t e))
-        ∙ pad-snoc (passed w) t.entry (omega (arith, passed-count w h t e, w.few)) ∙ ap pad_entries (sym (passed-next w h t e))
+        ap (λ (n : ℕ). set (pad_entries (passed w)) n t.value) (sym (passed-count w h))
+        ∙ pad-snoc (passed w) t.value (omega (arith, passed-count w h, w.few)) ∙ ap pad_entries (sym (passed-next w h x e t is))
 
-    pub fills : Filling file count end first p (with_entries r (set r.entries k t.entry)) t.next.0 (k + 1)
+    pub fills : Filling file count end first p (with_entries r (set r.entries k t.value)) t.next.0 (k + 1)
     fills =
         record {
-          walking = walks w h t e;
-          filled = ap (λ (y : Record). with_entries y (set y.entries k t.entry)) v.filled ∙ ap (with_entries first) stored;
+          walking = walks w h x e t is;
+          filled = ap (λ (y : Record). with_entries y (set y.entries k t.value)) v.filled ∙ ap (with_entries first) stored;
         }
 
   -- all are stored
   pub full : count ≤ k → (c : Content) → read_content file ≡ ok c → r ≡ with_entries first (pad_entries (entries_at p c.extensions))
   full h c e = v.filled ∙ ap (λ (l : List Entry). with_entries first (pad_entries l)) (walked w h c e)
+
+-- a reading with another record
+abbrev pub replaced : Reading → Record → Reading
+replaced r x = record { status = r.status; offset = r.offset; coded_width = r.coded_width; coded_height = r.coded_height; «record» = x }

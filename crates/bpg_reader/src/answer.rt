@@ -4,10 +4,9 @@ ghost use Rattle.bpg_format.specs.Limits.{max_entries, max_file};
 ghost use Rattle.bpg_format.specs.Zero.{zero_entry};
 ghost use Rattle.bpg_reader.specs.Assembled.{rounded_size, assembled_record, assembled_reading};
 
-use bpg_format::{Range, Reading, Record, zero_record};
-use bpg_read_entries::block::Block;
-use bpg_read_head::head::Head;
-use bpg_read_headers::headers::HeadersReading;
+use bpg_format::{Entry, MAX_ENTRIES, Range, Reading, Record};
+use bpg_read_animation::animation;
+use bpg_read_survey::FileSurvey;
 
 // A size rounded up to a multiple of the smallest coding block, whose size is 2^log2_size; 0 where log2_size is above 6, as it is in no accepted header.
 pub fn coded_size(size: u32, log2_size: u32) -> u64
@@ -17,18 +16,20 @@ pub fn coded_size(size: u32, log2_size: u32) -> u64
         return 0;
     }
     let unit = 1u64 << log2_size;
-    (size as u64 + unit - 1) / unit * unit
+    (u64::from(size) + unit - 1) / unit * unit
 }
 
-fn record(len: usize, head: Head, block: Block, both: HeadersReading) -> Record
+// The record of a survey. (What is required of it holds of each survey of a file of this length; a type for that would hold the file.)
+fn record(len: usize, found: FileSurvey) -> Record
     requires len_le_max_file { len ≤ max_file }
-    requires next_le_len { both.next.0 ≤ len }
-    ensures { result ≡ assembled_record len head block both (replicate max_entries zero_entry) }
+    requires next_le_len { found.rest.headers.next.0 ≤ len }
+    ensures { result ≡ assembled_record len found (replicate max_entries zero_entry) }
 {
-    let zero = zero_record();
-    let entries = zero.entries;
-    let alpha = both.alpha;
-    let color = both.color;
+    let head = found.head;
+    let block = found.rest.block;
+    let animation = block.animation.unwrap_or(animation::none());
+    let headers = found.rest.headers.value;
+    let start = found.rest.headers.next.0;
     Record {
         pixel_format: head.flags.pixel_format,
         alpha1_flag: head.flags.alpha1_flag,
@@ -42,33 +43,33 @@ fn record(len: usize, head: Head, block: Block, both: HeadersReading) -> Record
         picture_height: head.picture_height,
         explicit_length: head.data_length != 0,
         entry_count: block.entry_count,
-        entries,
-        loop_count: block.animation.loop_count,
-        frame_period_num: block.animation.frame_period_num,
-        frame_period_den: block.animation.frame_period_den,
-        headers: [alpha, color],
+        entries: [Entry::default(); MAX_ENTRIES],
+        loop_count: animation.loop_count,
+        frame_period_num: animation.frame_period_num,
+        frame_period_den: animation.frame_period_den,
+        headers: [headers.alpha, headers.color],
         data: Range {
-            start: both.next.0 as u32,
-            length: (len - both.next.0) as u32,
+            start: start as u32,
+            length: (len - start) as u32,
         },
     }
 }
 
 // The answer for a file of `len` bytes, all of whose parts were read, with zero entries.
-pub(crate) fn assemble(len: usize, head: Head, block: Block, both: HeadersReading) -> Reading
+pub(crate) fn assemble(len: usize, found: FileSurvey) -> Reading
     requires len_le_max_file { len ≤ max_file }
-    requires next_le_len { both.next.0 ≤ len }
-    requires log2_min_luma_coding_block_size_minus3_bound { both.color.log2_min_luma_coding_block_size_minus3 ≤ 3 }
-    ensures { result ≡ assembled_reading len head block both (replicate max_entries zero_entry) }
+    requires next_le_len { found.rest.headers.next.0 ≤ len }
+    requires log2_min_luma_coding_block_size_minus3_bound { found.rest.headers.value.color.log2_min_luma_coding_block_size_minus3 ≤ 3 }
+    ensures { result ≡ assembled_reading len found (replicate max_entries zero_entry) }
 {
-    let color = both.color;
+    let head = found.head;
+    let color = found.rest.headers.value.color;
     let log2_size = color.log2_min_luma_coding_block_size_minus3 + 3;
-    let record = record(len, head, block, both);
     Reading {
         status: 0,
         offset: 0,
         coded_width: coded_size(head.picture_width, log2_size),
         coded_height: coded_size(head.picture_height, log2_size),
-        record,
+        record: record(len, found),
     }
 }

@@ -6,4 +6,4 @@ mod file;
 
 pub use answer::coded_size;
 pub use bpg_head_call::call::{CodedHead, HeadReading, head};
-pub use file::{Verdict, body, judge, read};
+pub use file::{body, judge, read};

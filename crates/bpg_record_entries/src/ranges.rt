@@ -3,7 +3,7 @@ ghost use Rattle.std.specs.Prelude.{◌≡◌};
 ghost use Rattle.bpg_format.specs.Records.{used_entries};
 ghost use Rattle.bpg_format.specs.Write.{in_source, entries_in_source, ranges_in_source};
 
-use crate::used::used_count;
+use crate::used;
 use bpg_format::{Range, Record};
 
 fn is_in(range: Range, source: &[u8]) -> bool
@@ -14,26 +14,17 @@ fn is_in(range: Range, source: &[u8]) -> bool
 }
 
 // The payloads of the entries in use.
-fn payloads_in(record: Record, source: &[u8]) -> bool
-    ensures { result ≡ entries_in_source source.now (used_entries «record») }
+fn payloads_in(record: &Record, source: &[u8]) -> bool
+    ensures { result ≡ entries_in_source source.now (used_entries «record».now) }
 {
-    let entries = record.entries;
-    let count = used_count(record.entry_count);
-    let mut k: usize = 0;
-    while k < count {
-        let entry = entries[k];
-        let payload = entry.payload;
-        if !is_in(payload, source) {
-            return false;
-        }
-        k += 1;
-    }
-    true
+    used::entries(record)
+        .iter()
+        .all(|entry| is_in(entry.payload, source))
 }
 
-pub fn all_in(record: Record, source: &[u8]) -> bool
-    ensures { result ≡ ranges_in_source source.now «record» }
+#[tactic(auto, unfolding(bpg_format::specs::Write::ranges_in_source))]
+pub fn all_in(record: &Record, source: &[u8]) -> bool
+    ensures { result ≡ ranges_in_source source.now «record».now }
 {
-    let data = record.data;
-    payloads_in(record, source) & is_in(data, source)
+    payloads_in(record, source) & is_in(record.data, source)
 }

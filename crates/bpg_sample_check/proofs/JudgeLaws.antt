@@ -1,51 +1,70 @@
--- The judgement, test by test.
+-- The judgement of slices of planes and buffers, as the code tests them.
 use mathlib.Core.Path.{◌≡◌, refl, ap, ◌∙◌}
-use mathlib.Core.Bool.{true, false, ◌&&◌}
-use mathlib.Core.List.{List, ◌∷◌, ◌++◌, map}
-use Prim.Native.Nat.{ℕ}
+use mathlib.Core.Bool.{Bool, true, false, ◌&&◌}
+use mathlib.Core.List.{List, [], ◌∷◌, ◌++◌, map}
+use Prim.Native.Nat.{ℕ, min}
 use lib.Dec.{eqb, leb}
 use lib.ListN.{length}
-use borrow.Author.Tests.{eq-eqb}
-use Rattle.bpg_codec.specs.Outcome.{ok, error}
+use Rattle.std.proofs.Common.{Bor}
+use Rattle.std.specs.List.{list_all}
+use Rattle.bpg_codec.specs.Outcome.{ok, error, ◌>>=◌, guard}
 use Rattle.bpg_sample_rules.specs.Rules.{max_sample}
-use Rattle.bpg_sample_check.specs.declared.answer.Converted.{Converted}
-use Rattle.bpg_sample_check.specs.Judgement.{every, judged}
-use Rattle.bpg_sample_check.specs.Answers.{answer_of}
-use Rattle.bpg_sample_check.specs.Steps.{judged_by, largest_of}
-use Rattle.bpg_sample_check.proofs.EveryLaws.{every_map}
-use Rattle.bpg_sample_check.proofs.LargestLaws.{planes-largest}
+use Rattle.bpg_sample_rules.specs.Planes.{largest}
+use Rattle.bpg_sample_check.specs.Judgement.{sample_count, judged}
+use Rattle.bpg_sample_check.proofs.DepthLaws.{max-known}
+use Rattle.bpg_sample_check.proofs.LargestLaws.{plane-largest}
 
-module _ (count : ℕ) (lengths : List ℕ) (depth top : ℕ) where
-  pub by-31 : every (λ n. eqb n count) lengths ≡ false → judged_by count lengths depth top ≡ error 31 0
-  unfolding judged_by
-  by-31 a = rw a
+-- what a slice of planes or buffers lends
+abbrev pub lent : List (Bor (List ℕ)) → List (List ℕ)
+lent = map (λ s. s.now)
 
-  pub by-32 : every (λ n. eqb n count) lengths ≡ true → (leb 8 depth && leb depth 14) ≡ false → judged_by count lengths depth top ≡ error 32 0
-  unfolding judged_by
-  by-32 a b = rw (a, b)
+module _ (n : ℕ) where
+  abbrev pub have_length : List (Bor (List ℕ)) → Bool
+  have_length = list_all (λ l. eqb (length l.now) n)
 
-  pub by-33 : every (λ n. eqb n count) lengths ≡ true → (leb 8 depth && leb depth 14) ≡ true → leb top (max_sample depth) ≡ false
-      → judged_by count lengths depth top ≡ error 33 0
-  unfolding judged_by
-  by-33 a b c = rw (a, b, c)
+  lengths : (buffers : List (Bor (List ℕ))) → list_all (λ l. eqb (length l) n) (lent buffers) ≡ have_length buffers
+  lengths [] = refl
+  lengths (b ∷ buffers) = ap (λ (t : Bool). eqb (length b.now) n && t) (lengths buffers)
 
-  pub by-none : every (λ n. eqb n count) lengths ≡ true → (leb 8 depth && leb depth 14) ≡ true → leb top (max_sample depth) ≡ true
-      → judged_by count lengths depth top ≡ ok count
-  unfolding judged_by
-  by-none a b c = rw (a, b, c)
+  and-assoc : (a b c : Bool) → (a && (b && c)) ≡ ((a && b) && c)
+  and-assoc true b c = refl
+  and-assoc false b c = refl
 
--- the first plane is as long as itself
-first : (p : List ℕ) (ls : List (List ℕ)) → every (λ l. eqb (length l) (length p)) (p ∷ ls) ≡ every (λ n. eqb n (length p)) (map length ls)
-unfolding every
-first p ls = let e = eq-eqb (length p) (length p) refl in rw e (every_map (λ n. eqb n (length p)) length ls)
+  all-lengths : (planes buffers : List (Bor (List ℕ)))
+      → list_all (λ l. eqb (length l) n) (lent planes ++ lent buffers) ≡ (have_length planes && have_length buffers)
+  all-lengths [] buffers = lengths buffers
+  all-lengths (p ∷ planes) buffers =
+      ap (λ (t : Bool). eqb (length p.now) n && t) (all-lengths planes buffers) ∙ and-assoc (eqb (length p.now) n) (have_length planes) (have_length buffers)
 
--- and the planes are judged by their largest sample
-pub judged-by : (depth : ℕ) (p : List ℕ) (ps bs : List (List ℕ))
-    → judged depth (p ∷ ps) bs ≡ judged_by (length p) (map length (ps ++ bs)) depth (largest_of (p ∷ ps))
-unfolding judged judged_by
-judged-by depth p ps bs = rw (first p (ps ++ bs), planes-largest (max_sample depth) (p ∷ ps))
+abbrev pub have_samples_within : (m : ℕ) → List (Bor (List ℕ)) → Bool
+have_samples_within m = list_all (λ p. leb (largest p.now) m)
 
--- by an equal number
-pub judged-with : (count : ℕ) (lengths : List ℕ) (depth : ℕ) {top largest : ℕ} (answer : Converted)
-    → answer ≡ answer_of (judged_by count lengths depth top) → top ≡ largest → answer ≡ answer_of (judged_by count lengths depth largest)
-judged-with count lengths depth answer e k = e ∙ ap (λ (n : ℕ). answer_of (judged_by count lengths depth n)) k
+samples : (m : ℕ) (planes : List (Bor (List ℕ))) → list_all (list_all (λ s. leb s m)) (lent planes) ≡ have_samples_within m planes
+samples m [] = refl
+samples m (p ∷ planes) = rw (plane-largest m p.now, samples m planes)
+
+-- by its three tests, where n is the count that the code takes and m its largest sample
+module _ (planes buffers : List (Bor (List ℕ))) (depth : ℕ) {n : ℕ} (e : n ≡ sample_count (lent planes)) where
+  abbrev depth_test : Bool
+  depth_test = leb 8 depth && leb depth 14
+
+  by-tests : judged depth (lent planes) (lent buffers)
+      ≡ (guard (have_length n planes && have_length n buffers) 31 0 >>= λ _. (guard depth_test 32 0 >>= λ _.
+      (guard (have_samples_within (max_sample depth) planes) 33 0 >>= λ _. ok n)))
+  unfolding judged
+  by-tests = rw (e, all-lengths (sample_count (lent planes)) planes buffers, samples (max_sample depth) planes)
+
+  pub judged-31 : (have_length n planes && have_length n buffers) ≡ false → error 31 0 ≡ judged depth (lent planes) (lent buffers)
+  judged-31 a = rw (by-tests, a)
+
+  pub judged-32 : (have_length n planes && have_length n buffers) ≡ true → depth_test ≡ false → error 32 0 ≡ judged depth (lent planes) (lent buffers)
+  judged-32 a b = rw (by-tests, a, b)
+
+  module _ {m : ℕ} (k : m ≡ max_sample (min depth 16)) where
+    pub judged-33 : (have_length n planes && have_length n buffers) ≡ true → depth_test ≡ true → have_samples_within m planes ≡ false
+        → error 33 0 ≡ judged depth (lent planes) (lent buffers)
+    judged-33 a b c = rw (by-tests, a, b, ← max-known depth b k, c)
+
+    pub judged-ok : (have_length n planes && have_length n buffers) ≡ true → depth_test ≡ true → have_samples_within m planes ≡ true
+        → ok n ≡ judged depth (lent planes) (lent buffers)
+    judged-ok a b c = rw (by-tests, a, b, ← max-known depth b k, c)

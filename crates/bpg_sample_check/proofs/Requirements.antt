@@ -1,5 +1,5 @@
 -- Request 7/13's refusals and answers.
-use mathlib.Core.Path.{◌≡◌, refl, sym}
+use mathlib.Core.Path.{◌≡◌, refl}
 use mathlib.Core.Bool.{Bool, true, false, ◌&&◌}
 use mathlib.Core.List.{List, ◌++◌}
 use mathlib.Core.Logic.{◌≢◌}
@@ -7,15 +7,15 @@ use Prim.Native.Nat.{ℕ, ◌≤◌}
 use native.Mathlib.Omega.{arith}
 use lib.Dec.{eqb, leb}
 use lib.ListN.{length}
-use borrow.Author.Tests.{eq-eqb, eqb-true, le-leb, leb-true}
+use borrow.Author.Tests.{eq-eqb, ne_eqb, eqb-true, le-leb, leb-true}
 use Rattle.bpg_codec.specs.Outcome.{Outcome, ok, ◌>>=◌, guard}
 use Rattle.bpg_codec.proofs.Outcome.{unguard}
-use Rattle.bpg_codec.proofs.Select.{is_true}
+use Rattle.bpg_codec.proofs.Select.{is_true, select-true, select-false}
 use Rattle.bpg_sample_rules.specs.Rules.{max_sample}
-use Rattle.bpg_sample_check.specs.Judgement.{every, sample_count, judged}
+use Rattle.std.specs.List.{list_all}
+use Rattle.bpg_sample_check.specs.Judgement.{sample_count, judged}
 use Rattle.bpg_sample_check.specs.Requirements.{EqualLengths, DepthKnown, SamplesAtMost, Refusals, Answers, Buffers}
-use Rattle.bpg_sample_check.specs.Answers.{answer_of}
-use Rattle.bpg_sample_check.proofs.CallLaws.{kept, stored}
+use Rattle.bpg_sample_check.specs.Answers.{answer_of, buffer_after}
 use Rattle.bpg_sample_check.proofs.EveryLaws.{and_left, and_right, every-all, all-every}
 
 not-passed : (b : Bool) → (b ≡ true → ⊥) → b ≡ false
@@ -46,13 +46,13 @@ no-count-of true true true n h = absurd (h refl)
 
 module _ (depth : ℕ) (planes buffers : List (List ℕ)) where
   abbrev length_test : Bool
-  length_test = every (λ l. eqb (length l) (sample_count planes)) (planes ++ buffers)
+  length_test = list_all (λ l. eqb (length l) (sample_count planes)) (planes ++ buffers)
 
   abbrev depth_test : Bool
   depth_test = leb 8 depth && leb depth 14
 
   abbrev sample_test : Bool
-  sample_test = every (every (λ s. leb s (max_sample depth))) planes
+  sample_test = list_all (list_all (λ s. leb s (max_sample depth))) planes
 
   lengths-pass : length_test ≡ true → EqualLengths depth planes buffers
   lengths-pass = every-all _ _ (λ l. eqb-true (length l) (sample_count planes)) (planes ++ buffers)
@@ -99,5 +99,9 @@ module _ (depth : ℕ) (planes buffers : List (List ℕ)) where
       }
 
 pub buffers-after : (status : ℕ) (result held : List ℕ) → Buffers status result held
+unfolding buffer_after
 buffers-after status result held =
-    record { success = λ e. sym (stored status held e refl); refusal = λ n. sym (kept status result held n) }
+    record {
+      success = λ e. select-true _ _ (eq-eqb status 0 e);
+      refusal = λ n. select-false _ _ (ne_eqb status 0 n);
+    }

@@ -1,13 +1,9 @@
 -- What a call on samples is refused for (request 7/13): "Refusals, in order: 31 planes or room of unequal length; 32 depth outside 8 to 14; 33 a
 -- sample above M." Room is the buffers that a call writes.
-use Rattle.std.specs.Prelude.{Bool, true, ◌&&◌, List, [], ◌∷◌, ◌++◌, ℕ, eqb, leb, length}
+use Rattle.std.specs.Prelude.{◌&&◌, List, [], ◌∷◌, ◌++◌, ℕ, eqb, leb, length}
+use Rattle.std.specs.List.{list_all}
 use Rattle.bpg_codec.specs.Outcome.{Outcome, ok, ◌>>=◌, guard}
 use Rattle.bpg_sample_rules.specs.Rules.{max_sample}
-
--- every element passes
-unfoldable pub every : {X : Type 0} → (X → Bool) → List X → Bool
-every f [] = true
-every f (x ∷ l) = f x && every f l
 
 -- how many samples a plane has: as many as the first
 abbrev pub sample_count : (planes : List (List ℕ)) → ℕ
@@ -17,7 +13,7 @@ sample_count (p ∷ ps) = length p
 -- the count, or the first refusal
 unfoldable pub judged : (depth : ℕ) (planes buffers : List (List ℕ)) → Outcome ℕ
 judged depth planes buffers =
-    guard (every (λ l. eqb (length l) (sample_count planes)) (planes ++ buffers)) 31 0 >>= λ _.
+    guard (list_all (λ l. eqb (length l) (sample_count planes)) (planes ++ buffers)) 31 0 >>= λ _.
     guard (leb 8 depth && leb depth 14) 32 0 >>= λ _.
-    guard (every (every (λ s. leb s (max_sample depth))) planes) 33 0 >>= λ _.
+    guard (list_all (list_all (λ s. leb s (max_sample depth))) planes) 33 0 >>= λ _.
     ok (sample_count planes)

@@ -1,5 +1,4 @@
 -- The judgement of a call on samples, and its answer.
 pub mod Judgement
 pub mod Answers
-pub mod Steps
 pub mod Requirements

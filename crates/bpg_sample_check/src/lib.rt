@@ -3,10 +3,8 @@
 
 mod answer;
 mod judgement;
-mod largest;
 mod numbers;
-mod planes;
 
 pub use answer::Converted;
-pub use numbers::{larger, max_sample, smaller};
-pub use planes::{judge_1, judge_3, judge_4};
+pub use judgement::judge;
+pub use numbers::max_sample;

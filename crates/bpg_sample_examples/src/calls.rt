@@ -1,5 +1,5 @@
 // One call, by its number.
-use crate::text;
+use bpg_cases::text;
 use bpg_samples::Converted;
 
 // What is none of the calls' numbers runs none.
@@ -46,10 +46,10 @@ pub(crate) fn show(
     z: &mut [u16],
 ) {
     let answer = call(number, depth, a, b, c, d, w, x, y, z);
-    text::show_answer(answer);
-    text::show_buffer(w);
-    text::show_buffer(x);
-    text::show_buffer(y);
-    text::show_buffer(z);
+    text::show_counted(answer.status, answer.offset, answer.count);
+    for buffer in [&*w, &*x, &*y, &*z] {
+        text::show(b" |");
+        text::show_numbers(buffer);
+    }
     text::show(b"\n");
 }

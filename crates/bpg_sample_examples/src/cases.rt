@@ -2,6 +2,7 @@
 ghost use Rattle.std.specs.Prelude.{◌≤◌};
 
 use crate::calls;
+use bpg_cases::bytes_at;
 
 // More samples than a plane of the cases has, and four times as many.
 const MOST: usize = 32;
@@ -10,21 +11,14 @@ const MOST_OF_ALL: usize = 128;
 
 // A byte of the case's head; 0 past the end.
 fn byte_at(head: &[u8], k: usize) -> u8 {
-    if head.len() <= k {
-        return 0;
-    }
-    head[k]
+    head.get(k).copied().unwrap_or(0)
 }
 
 // How long a plane or a buffer is.
 fn length_at(head: &[u8], k: usize) -> usize
     ensures { result ≤ 32 }
 {
-    let length = byte_at(head, k) as usize;
-    if MOST < length {
-        return MOST;
-    }
-    length
+    usize::from(byte_at(head, k)).min(MOST)
 }
 
 fn show_buffers(head: &[u8], a: &[u16], b: &[u16], c: &[u16], d: &[u16]) {
@@ -70,25 +64,10 @@ fn show_planes(head: &[u8], samples: &[u16]) {
     );
 }
 
-// A sample of two bytes.
-fn sample(high: u8, low: u8) -> u16 {
-    high as u16 * 256 + low as u16
-}
-
-// The two bytes at an offset; 0 past the end.
-fn sample_at(s: &[u8], at: usize) -> u16 {
-    if s.len() < 2 {
-        return 0;
-    }
-    if s.len() - 2 < at {
-        return 0;
-    }
-    sample(s[at], s[at + 1])
-}
-
+// Samples of two bytes; 0 past the end.
 fn read_samples(s: &[u8], samples: &mut [u16]) {
-    for k in 0..samples.len() {
-        samples[k] = sample_at(s, k * 2);
+    for (k, sample) in samples.iter_mut().enumerate() {
+        *sample = u16::from_be_bytes(bytes_at(s, k * 2));
     }
 }
 
@@ -97,14 +76,11 @@ fn show_case(head: &[u8], s: &[u8], samples: &mut [u16]) {
     show_planes(head, samples);
 }
 
-// The first bytes are the case. Any other line, such as an empty one, prints nothing.
-pub(crate) fn show(bytes: &[u8], size: usize) {
-    if size < 10 {
-        return;
-    }
-    if bytes.len() < size {
+// A shorter line prints nothing.
+pub(crate) fn show(case: &[u8]) {
+    if case.len() < 10 {
         return;
     }
     let mut space = [0u16; MOST_OF_ALL];
-    show_case(&bytes[0..10], &bytes[10..size], &mut space);
+    show_case(&case[..10], &case[10..], &mut space);
 }

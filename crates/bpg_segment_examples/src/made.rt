@@ -1,8 +1,8 @@
 // Payloads as long as a segment may hold and a byte longer, in files that are made here: the answer of export, where a run begins and ends, and
 // what import gives back.
-use crate::{hex, runs, text};
-use bpg_bytes::compare::equal;
+use crate::runs;
 use bpg_bytes::{BytePos, buffer};
+use bpg_cases::text;
 use bpg_write_ue7::ue7;
 
 // More than a file or a run takes here.
@@ -38,10 +38,7 @@ fn make(space: &mut [u8], tag: u8, empty: u8, payload: &[u8]) -> usize {
 }
 
 fn show_same(back: &[u8], payload: &[u8]) {
-    if back.len() < payload.len() {
-        return;
-    }
-    if equal(&back[0..payload.len()], payload) {
+    if back.starts_with(payload) {
         text::show(b" the same");
     }
 }
@@ -62,9 +59,9 @@ fn show_ends(run: &[u8]) {
         return;
     }
     text::show(b" run ");
-    hex::show(&run[0..40]);
+    text::show_bytes(&run[0..40]);
     text::show(b" .. ");
-    hex::show(&run[count - 40..count]);
+    text::show_bytes(&run[count - 40..count]);
 }
 
 fn show_run(out: &[u8], count: usize, payload: &[u8]) {

@@ -1,5 +1,5 @@
 // Export and import: the answer, and the buffer after it, which was filled with a5.
-use crate::{hex, text};
+use bpg_cases::text;
 use bpg_segment_rules::Imported;
 
 // More than the cases take.
@@ -7,15 +7,8 @@ const MOST: usize = 1024;
 
 fn show_buffer(out: &[u8]) {
     text::show(b" buffer ");
-    hex::show(out);
+    text::show_bytes(out);
     text::show(b"\n");
-}
-
-fn export(file: &[u8], out: &mut [u8]) {
-    let written = bpg_segment_export::export_segments(file, out);
-    text::show_answer(written.status, written.offset);
-    text::show_number(b" count ", written.count as u64);
-    show_buffer(out);
 }
 
 pub(crate) fn show_lengths(imported: Imported) {
@@ -24,23 +17,32 @@ pub(crate) fn show_lengths(imported: Imported) {
     text::show_number(b" ", imported.icc_length as u64);
 }
 
+// The call on bytes and a buffer of this size, which shows its answer, and the buffer after it.
+fn show_call<F: Fn(&[u8], &mut [u8])>(bytes: &[u8], size: usize, call: F)
+    requires { F.IsAlwaysCallable call }
+{
+    let mut space = [0xa5u8; MOST];
+    if size <= MOST {
+        call(bytes, &mut space[..size]);
+        show_buffer(&space[..size]);
+    }
+}
+
+fn export(file: &[u8], out: &mut [u8]) {
+    let written = bpg_segment_export::export_segments(file, out);
+    text::show_counted(written.status, written.offset, written.count);
+}
+
 fn import(run: &[u8], out: &mut [u8]) {
     let imported = bpg_segment_import::import_segments(run, out);
     text::show_answer(imported.status, imported.offset);
     show_lengths(imported);
-    show_buffer(out);
 }
 
 pub(crate) fn show_export(file: &[u8], size: usize) {
-    let mut space = [0xa5u8; MOST];
-    if size <= MOST {
-        export(file, &mut space[0..size]);
-    }
+    show_call(file, size, |file, out| export(file, out));
 }
 
 pub(crate) fn show_import(run: &[u8], size: usize) {
-    let mut space = [0xa5u8; MOST];
-    if size <= MOST {
-        import(run, &mut space[0..size]);
-    }
+    show_call(run, size, |run, out| import(run, out));
 }

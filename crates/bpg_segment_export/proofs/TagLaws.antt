@@ -1,32 +1,25 @@
 -- The entries with a tag, one after the other.
-use mathlib.Core.Path.{◌≡◌, refl, sym, ap, ◌∙◌}
+use mathlib.Core.Path.{◌≡◌, refl, sym, ap, ◌∙◌, subst}
 use mathlib.Core.Bool.{Bool, true, false}
 use mathlib.Core.List.{List, [], ◌∷◌}
 use mathlib.Core.Logic.{◌≢◌}
 use Prim.Native.Nat.{ℕ, suc, ◌+◌, ◌≤◌, ◌<◌}
 use native.Mathlib.Omega.{arith}
-use lib.Dec.{eqb, leb}
-use lib.ListN.{length, drop, get_or, length-take, drop_of_length-le}
-use lib.Seq.{get_or-take}
+use lib.Dec.{eqb}
+use lib.ListN.{length, drop, get_or, drop_of_length-le}
 use borrow.Author.Tests.{eq-eqb, ne_eqb, lt-leb}
+use Rattle.std.specs.Prelude.{Option, Some, None}
+use Rattle.std.specs.Option.{is_some, unwrap_or}
 use Rattle.bpg_codec.specs.Select.{select}
-use Rattle.bpg_codec.proofs.Lists.{either_way, drop-next}
+use Rattle.bpg_codec.proofs.Lists.{drop-next}
 use Rattle.bpg_codec.proofs.Select.{select-true, select-false}
-use Rattle.bpg_format.specs.Limits.{max_entries}
 use Rattle.bpg_format.specs.declared.record.Entry.{Entry}
-use Rattle.bpg_format.specs.declared.record.Record.{Record}
+use Rattle.bpg_format.specs.declared.record.Range.{Range}
 use Rattle.bpg_format.specs.Zero.{zero_entry, range}
-use Rattle.bpg_format.specs.Records.{used_entries}
-use Rattle.bpg_segment_export.specs.declared.tags.Tagged.{Tagged}
-use Rattle.bpg_segment_export.specs.Calls.{with_tag}
-use Rattle.bpg_segment_export.specs.Steps.{NextWith, tagged_of, tagged_in}
-
--- the entries in use
-pub used-length : (r : Record) → length r.entries ≡ max_entries → r.entry_count ≤ max_entries → length (used_entries r) ≡ r.entry_count
-used-length r n h = length-take r.entry_count r.entries ∙ omega (arith, n, h)
-
-pub used-entry : (r : Record) (k : ℕ) → k < r.entry_count → get_or (used_entries r) k zero_entry ≡ get_or r.entries k zero_entry
-used-entry r k h = get_or-take r.entry_count r.entries k zero_entry h
+use Rattle.bpg_format.proofs.RuleLaws.{bool-apart}
+use Rattle.bpg_segment_rules.proofs.TestLaws.{by_cases}
+use Rattle.bpg_segment_export.specs.Calls.{with_tag, at_most_one}
+use Rattle.bpg_segment_export.specs.Steps.{only_of}
 
 pub no-entries : (tag : ℕ) → with_tag tag [] ≡ []
 unfolding with_tag
@@ -43,53 +36,59 @@ module _ (tag : ℕ) (e : Entry) (es : List Entry) where
 
 -- ---- the search
 
-abbrev pub Searched : (tag : ℕ) (es : List Entry) (from k : ℕ) → Type 0
-Searched tag es from k = with_tag tag (drop from es) ≡ with_tag tag (drop k es)
+-- what was found so far, of all entries with the tag and of those that are left
+abbrev pub Held : Option Range → (all left : List Entry) → Type 0
+Held None all left = all ≡ left
+Held (Some p) all left = (e : Entry) × (e.payload ≡ p) × (all ≡ e ∷ left)
 
-module _ (tag : ℕ) (es : List Entry) (from : ℕ) where
-  module _ (k : ℕ) (so_far : Searched tag es from k) where
-    module _ (h : k < length es) (e : Entry) (is : get_or es k zero_entry ≡ e) where
-      next-is : drop k es ≡ e ∷ drop (k + 1) es
-      next-is = drop-next es k zero_entry h ∙ ap (λ (x : Entry). x ∷ drop (k + 1) es) is
+module _ (tag : ℕ) (es : List Entry) (k : ℕ) (h : k < length es) (d : Entry) where
+  abbrev next : Entry
+  next = get_or es k d
 
-      pub search-stops : e.tag ≡ tag → NextWith es tag from k
-      search-stops t =
-          record {
-            inside = omega (arith, h);
-            none = λ n. absurd (omega (arith, h, n));
-            found = λ _. so_far ∙ ap (with_tag tag) next-is ∙ tag-matches tag e (drop (k + 1) es) t ∙ ap (λ (x : Entry). x ∷ with_tag tag (drop (k + 1) es)) (sym is);
-          }
+  abbrev pub left : ℕ → List Entry
+  left n = with_tag tag (drop n es)
 
-      pub search-goes-on : e.tag ≢ tag → Searched tag es from (k + 1)
-      search-goes-on t = so_far ∙ ap (with_tag tag) next-is ∙ tag-differs tag e (drop (k + 1) es) t
+  first-left : next.tag ≡ tag → left k ≡ next ∷ left (k + 1)
+  first-left t = ap (with_tag tag) (drop-next es k d h) ∙ tag-matches tag next (drop (k + 1) es) t
 
-    pub search-ends : length es ≤ k → NextWith es tag from (length es)
-    search-ends h =
-        record {
-          inside = omega arith;
-          none = λ _. so_far ∙ ap (with_tag tag) (drop_of_length-le es {i = k} h) ∙ no-entries tag;
-          found = λ n. absurd (omega (arith, n));
-        }
+  pub goes-on : (found : Option Range) (all : List Entry) → next.tag ≢ tag → Held found all (left k) → Held found all (left (k + 1))
+  goes-on found all t = subst (Held found all) (ap (with_tag tag) (drop-next es k d h) ∙ tag-differs tag next (drop (k + 1) es) t)
+
+  pub first-found : (found : Option Range) (all : List Entry) → is_some found ≡ false → next.tag ≡ tag → Held found all (left k) → Held (Some next.payload) all (left (k + 1))
+  first-found None all n t held = (next, refl, held ∙ first-left t)
+  first-found (Some p) all n t held = bool-apart refl n
+
+  -- one more is the second
+  pub second-found : (found : Option Range) (all : List Entry) → is_some found ≡ true → next.tag ≡ tag → Held found all (left k) → None ≡ only_of all
+  second-found None all n t held = bool-apart n refl
+  second-found (Some p) all n t held =
+      let e = held.2 ∙ ap (λ (l : List Entry). held.0 ∷ l) (first-left t) in
+      sym (select-false _ _ (lt-leb (length all) 1 (omega (arith, ap length e))))
+
+pub all-searched : (tag : ℕ) (es : List Entry) (k : ℕ) → length es ≤ k → (found : Option Range) (all : List Entry) → Held found all (with_tag tag (drop k es))
+    → Some (unwrap_or found (range 0 0)) ≡ only_of all
+all-searched tag es k h found all held = by found (subst (Held found all) (ap (with_tag tag) (drop_of_length-le es {i = k} h) ∙ no-entries tag) held)
+  where
+    by : (found : Option Range) → Held found all [] → Some (unwrap_or found (range 0 0)) ≡ only_of all
+    by None e = rw e (sym (select-true _ _ refl))
+    by (Some p) e = rw e.2 (sym (select-true _ _ refl ∙ ap Some e.1))
 
 -- ---- at most once
 
-module _ (tag : ℕ) (es : List Entry) (first : ℕ) (a : NextWith es tag 0 first) where
-  pub tagged-none : first ≡ length es → ◌≡◌ {A = Tagged} (record { once = true; payload = range 0 0 }) (tagged_in tag es)
-  tagged-none e = ap tagged_of (sym (a.none e))
+pub only-none : (es : List Entry) → None ≡ only_of es → at_most_one es ≡ false
+only-none es e = by_cases (at_most_one es) (λ t. absurd (not-some (e ∙ select-true _ _ t))) (λ t. t)
+  where
+    not-some : {p : Range} → ◌≡◌ {A = Option Range} None (Some p) → ⊥
+    not-some e = cc
 
-  module _ (h : first < length es) (second : ℕ) (b : NextWith es tag (first + 1) second) where
-    -- whether another follows
-    once_is : eqb second (length es) ≡ leb (suc (length (with_tag tag (drop (first + 1) es)))) 1
-    once_is =
-        either_way (length es) second
-        (λ k. let e : second ≡ length es = omega (arith, k, b.inside) in rw (b.none e) (eq-eqb second (length es) e))
-        (λ k.
-        let l = with_tag tag (drop (first + 1) es) in
-        let n : 1 < suc (length l) = omega (arith, ap length (b.found k)) in
-        ne_eqb second (length es) (λ e. omega (arith, e, k)) ∙ sym (lt-leb (suc (length l)) 1 n))
+pub only-some : (es : List Entry) (p : Range) → Some p ≡ only_of es → (at_most_one es ≡ true) × (p ≡ (get_or es 0 zero_entry).payload)
+only-some es p e = by_cases (at_most_one es) (λ t. (t, injective (e ∙ select-true _ _ t))) (λ t. absurd (not-none (e ∙ select-false _ _ t)))
+  where
+    injective : {p q : Range} → ◌≡◌ {A = Option Range} (Some p) (Some q) → p ≡ q
+    injective e = cc
 
-    pub tagged-some : ◌≡◌ {A = Tagged} (record { once = eqb second (length es); payload = (get_or es first zero_entry).payload }) (tagged_in tag es)
-    tagged-some = ap (λ (t : Bool). record { once = t; payload = (get_or es first zero_entry).payload }) once_is ∙ ap tagged_of (sym (a.found h))
+    not-none : {p : Range} → ◌≡◌ {A = Option Range} (Some p) None → ⊥
+    not-none e = cc
 
 -- the first entry with a tag is an entry, or the zero entry
 pub first-is : (P : Entry → Type 0) (tag : ℕ) (es : List Entry) → ((k : ℕ) → P (get_or es k zero_entry)) → P (get_or (with_tag tag es) 0 zero_entry)

@@ -1,11 +1,30 @@
 // The call.
-ghost use Rattle.std.specs.Prelude.{◌≡◌};
+ghost use Rattle.std.specs.Prelude.{◌≡◌, ◌+◌, ◌≤◌, length};
+ghost use Rattle.bpg_format.specs.Records.{bytes_in};
 ghost use Rattle.bpg_segment_export.specs.Calls.{export_segments, exported_buffer};
 
 use crate::tags::with_tag;
-use bpg_format::{Written, written_refused};
+use bpg_bytes::BytePos;
+use bpg_format::{Range, Written};
 use bpg_reader::read;
+use bpg_refusal::Reason;
 use bpg_segment_writer::write_run;
+
+// The bytes of a range of the file.
+fn bytes(file: &[u8], range: Range) -> &[u8]
+    requires { range.start + range.length ≤ length file.now }
+    ensures { result.now ≡ bytes_in file.now range }
+{
+    let start = range.start as usize;
+    &file[start..start + range.length as usize]
+}
+
+// What a file with one of the tags twice is answered.
+fn tag_twice() -> Written
+    ensures { result ≡ record { status = 35; offset = 0; count = 0 } }
+{
+    Written::refused(Reason::TagTwice.at(BytePos(0)))
+}
 
 // The payloads of tags 1 (EXIF), 3 (XMP) and 2 (ICC) as segments from the start of `out`, and how many bytes these are; or the reader's refusal,
 // 35, 34 or 20. All is judged before a byte is stored, and each payload is copied once.
@@ -15,25 +34,21 @@ pub fn export_segments(file: &[u8], out: &mut [u8]) -> Written
 {
     let reading = read(file);
     if reading.status != 0 {
-        return written_refused(reading.status, reading.offset);
+        return Written {
+            status: reading.status,
+            offset: reading.offset,
+            count: 0,
+        };
     }
-    let record = reading.record;
-    let exif = with_tag(record, 1);
-    let xmp = with_tag(record, 3);
-    let icc = with_tag(record, 2);
-    if !(exif.once & (xmp.once & icc.once)) {
-        return written_refused(35, 0);
-    }
-    let exif_start = exif.payload.start as usize;
-    let exif_end = exif_start + exif.payload.length as usize;
-    let xmp_start = xmp.payload.start as usize;
-    let xmp_end = xmp_start + xmp.payload.length as usize;
-    let icc_start = icc.payload.start as usize;
-    let icc_end = icc_start + icc.payload.length as usize;
-    write_run(
-        &file[exif_start..exif_end],
-        &file[xmp_start..xmp_end],
-        &file[icc_start..icc_end],
-        out,
-    )
+    let record = &reading.record;
+    let Some(exif) = with_tag(record, 1) else {
+        return tag_twice();
+    };
+    let Some(xmp) = with_tag(record, 3) else {
+        return tag_twice();
+    };
+    let Some(icc) = with_tag(record, 2) else {
+        return tag_twice();
+    };
+    write_run(bytes(file, exif), bytes(file, xmp), bytes(file, icc), out)
 }

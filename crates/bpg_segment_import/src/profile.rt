@@ -5,7 +5,6 @@ ghost use Rattle.bpg_codec.specs.Buffer.{written, written_end};
 ghost use Rattle.bpg_segment_rules.specs.Runs.{icc_in};
 ghost use Rattle.bpg_segment_reader.specs.Runs.{profile_in};
 
-use bpg_bytes::arithmetic::least;
 use bpg_bytes::{BytePos, buffer};
 
 // Writes the payloads of the chunks from `at` on, end to end: each follows 18 bytes, and all but the last have 65,519.
@@ -17,12 +16,13 @@ pub(crate) fn copy_profile(run: &[u8], at: usize, out: &mut [u8], to: BytePos) -
     ensures result_value { result.0 ≡ written_end out.old to.0 (profile_in (drop at run.now)) }
 {
     let mut p = at;
-    let mut next = to.0;
+    let mut next = to;
+    // A while: each step ends where its payload ends, and `chunks` would cut the header off in a step of its own, which is no plainer.
     while p < run.len() {
         let start = p + 18;
-        let end = least(start + 65_519, run.len());
-        next = buffer::write(out, BytePos(next), &run[start..end]).0;
+        let end = (start + 65_519).min(run.len());
+        next = buffer::write(out, next, &run[start..end]);
         p = end;
     }
-    BytePos(next)
+    next
 }

@@ -1,22 +1,20 @@
 -- Judging the chunks of a profile.
 use mathlib.Core.Path.{◌≡◌, refl, sym, ap, ap₂, ◌∙◌}
-use mathlib.Core.Bool.{true, false}
+use mathlib.Core.Bool.{true, false, ◌||◌}
 use mathlib.Core.List.{List, [], ◌∷◌, ◌++◌}
 use Prim.Native.Nat.{ℕ, zero, suc, ◌+◌, ◌-◌, ◌≤◌, ◌<◌}
 use native.Mathlib.Omega.{arith}
 use native.Mathlib.Numerals.{add-one}
 use lib.Dec.{eqb}
-use Rattle.bpg_codec.proofs.Lists.{either_way}
 use lib.ListN.{length, take, drop, get_or, length-append, length-drop, drop_of_length-le}
 use lib.Seq.{length-take-le}
-use borrow.Author.Tests.{leb-true, eqb-true, eqb-false}
+use borrow.Author.Tests.{leb-true, ne_eqb}
 use Rattle.bpg_codec.specs.Outcome.{Outcome, ok, error, ◌>>=◌, guard}
 use Rattle.bpg_codec.specs.Lists.{same}
-use Rattle.bpg_codec.proofs.Select.{select-true, select-false}
 use Rattle.bpg_segment_rules.specs.Segments.{opens, inside, after, holds, payload, take_part}
 use Rattle.bpg_segment_rules.specs.Runs.{icc_prefix, full, is_empty, chunks_in, icc_in}
 use Rattle.bpg_segment_reader.specs.declared.segment.Part.{Part}
-use Rattle.bpg_segment_reader.specs.Places.{PartAt, full_size, judged_length, judgement_of}
+use Rattle.bpg_segment_reader.specs.Places.{PartAt, full_size, judged_length}
 use Rattle.bpg_segment_rules.proofs.TestLaws.{and_split, by_cases}
 use Rattle.bpg_segment_rules.proofs.SegmentLaws.{taken, passed}
 use Rattle.bpg_segment_rules.proofs.ChunkLaws.{in-none, in-more}
@@ -25,9 +23,9 @@ full_size-length : (m : ℕ) (p : List ℕ) → full m p ≡ full_size m (length
 full_size-length zero p = refl
 full_size-length (suc m) p = refl
 
-pub full-left : (m n : ℕ) → (m ≡ 0 → ⊥) → full_size m n ≡ eqb n 65519
-full-left zero n h = absurd (h refl)
-full-left (suc m) n h = refl
+pub full-is : (m n : ℕ) → (eqb m 0 || eqb n 65519) ≡ full_size m n
+full-is zero n = refl
+full-is (suc m) n = rw (ne_eqb (suc m) 0 λ z. omega (arith, z))
 
 -- what a part that was taken says
 module _ (marker : ℕ) (prefix l a r : List ℕ) (e : take_part marker prefix l ≡ (a, r)) where
@@ -85,9 +83,6 @@ left_over : (l : List ℕ) → 0 < length l → ◌≡◌ {A = Outcome (List ℕ
 left_over [] h = absurd (omega arith)
 left_over (x ∷ l) h = refl
 
-eqb-less : (a b : ℕ) → eqb a b ≡ false → a ≤ b → a < b
-eqb-less a b t h = either_way b a (λ k. absurd (eqb-false a b t (omega arith))) (λ k. k)
-
 -- the loop: all of it is what is left, after what was passed
 abbrev pub Walked : (run : List ℕ) (total at p len k : ℕ) → Type 0
 Walked run total at p len k = judged_length 0 (chunks_in total 1 total (drop at run)) ≡ judged_length len (chunks_in (total - k) (k + 1) total (drop p run))
@@ -97,15 +92,18 @@ module _ (run : List ℕ) (total at : ℕ) where
   walked_none = ap (λ (m : ℕ). judged_length 0 (chunks_in m 1 total (drop at run))) (omega arith)
 
   module _ (p len k : ℕ) (w : Walked run total at p len k) where
-    pub walked_end : (k ≡ total) → p ≤ length run → judged_length 0 (chunks_in total 1 total (drop at run)) ≡ judgement_of (record { good = eqb p (length run); length = len })
-    unfolding judged_length
-    walked_end e h =
+    at_end : k ≡ total → judged_length 0 (chunks_in total 1 total (drop at run)) ≡ judged_length len (guard (is_empty (drop p run)) 36 0 >>= λ _. ok [])
+    at_end e =
         let z : total - k ≡ 0 = omega arith in
         w ∙ ap (λ (m : ℕ). judged_length len (chunks_in m (k + 1) total (drop p run))) z ∙ ap (judged_length len) (in-none (k + 1) total (drop p run))
-        ∙ by_cases (eqb p (length run))
-        (λ t. let q : p ≡ length run = eqb-true _ _ t in
-        rw (drop_of_length-le run {i = p} (omega (arith, q))) (ap ok (omega arith) ∙ sym (select-true _ _ t)))
-        (λ t. ap (judged_length len) (left_over (drop p run) (omega (arith, length-drop p run, eqb-less p (length run) t h))) ∙ sym (select-false _ _ t))
+
+    pub walked_end : k ≡ total → p ≡ length run → judged_length 0 (chunks_in total 1 total (drop at run)) ≡ ok len
+    unfolding judged_length
+    walked_end e h = at_end e ∙ rw (drop_of_length-le run {i = p} (omega arith)) (ap ok (omega arith))
+
+    pub walked_over : k ≡ total → p ≤ length run → (p ≡ length run → ⊥) → judged_length 0 (chunks_in total 1 total (drop at run)) ≡ error 36 0
+    unfolding judged_length
+    walked_over e h n = at_end e ∙ ap (judged_length len) (left_over (drop p run) (omega (arith, length-drop p run)))
 
     module _ (r : Part) (found : PartAt run p 226 (icc_prefix (k + 1) total) r) (more : k < total) where
       abbrev s : ℕ
@@ -123,13 +121,13 @@ module _ (run : List ℕ) (total at : ℕ) where
       next_one : total - k ≡ suc (total - k - 1)
       next_one = omega arith
 
-      stop : chunks_in (suc (total - k - 1)) (k + 1) total (drop p run) ≡ error 36 0 → judged_length 0 (chunks_in total 1 total (drop at run)) ≡ judgement_of (record { good = false; length = 0 })
-      stop f = w ∙ ap (judged_length len) (ap (λ (m : ℕ). chunks_in m (k + 1) total (drop p run)) next_one ∙ f) ∙ length-error len ∙ sym (select-false _ _ refl)
+      stop : chunks_in (suc (total - k - 1)) (k + 1) total (drop p run) ≡ error 36 0 → judged_length 0 (chunks_in total 1 total (drop at run)) ≡ error 36 0
+      stop f = w ∙ ap (judged_length len) (ap (λ (m : ℕ). chunks_in m (k + 1) total (drop p run)) next_one ∙ f) ∙ length-error len
 
-      pub walked-none-there : e - s ≡ 0 → judged_length 0 (chunks_in total 1 total (drop at run)) ≡ judgement_of (record { good = false; length = 0 })
+      pub walked-none-there : e - s ≡ 0 → judged_length 0 (chunks_in total 1 total (drop at run)) ≡ error 36 0
       walked-none-there z = stop (stops-none (total - k - 1) (k + 1) total (drop p run) a (drop e run) found.is (size_is ∙ z))
 
-      pub walked-short : (e - s ≡ 0 → ⊥) → full_size (total - k - 1) (e - s) ≡ false → judged_length 0 (chunks_in total 1 total (drop at run)) ≡ judgement_of (record { good = false; length = 0 })
+      pub walked-short : (e - s ≡ 0 → ⊥) → full_size (total - k - 1) (e - s) ≡ false → judged_length 0 (chunks_in total 1 total (drop at run)) ≡ error 36 0
       walked-short z f =
           stop (stops-short (total - k - 1) (k + 1) total (drop p run) a (drop e run) found.is (λ y. z (sym size_is ∙ y)) (ap (full_size (total - k - 1)) size_is ∙ f))
 

@@ -1,18 +1,16 @@
 -- What was found of the parts, put together.
 use mathlib.Core.Path.{◌≡◌, refl, sym, ap, ◌∙◌}
-use mathlib.Core.Bool.{true}
+use Rattle.std.specs.Prelude.{Some, None}
 use mathlib.Core.List.{List}
 use Prim.Native.Nat.{ℕ}
 use native.Mathlib.Omega.{arith}
 use lib.ListN.{length, drop}
 use Rattle.bpg_codec.specs.Outcome.{Outcome, ok, error, ◌>>=◌}
-use Rattle.bpg_codec.proofs.Select.{select-true, select-false}
 use Rattle.bpg_codec.proofs.Outcome.{ok-injective, error-not-ok}
 use Rattle.bpg_segment_rules.specs.Segments.{take_part}
 use Rattle.bpg_segment_rules.specs.Runs.{Payloads, payloads, exif_prefix, xmp_prefix, icc_in, import_run}
 use Rattle.bpg_segment_reader.specs.declared.segment.Part.{Part}
-use Rattle.bpg_segment_reader.specs.declared.chunks.Judged.{Judged}
-use Rattle.bpg_segment_reader.specs.Places.{bytes_of, PartAt, judged_length, judgement_of}
+use Rattle.bpg_segment_reader.specs.Places.{bytes_of, PartAt, judged_length}
 use Rattle.bpg_segment_reader.specs.Runs.{value_of, profile_in, FoundIn}
 
 -- what a judgement says of the profile
@@ -36,21 +34,20 @@ module _ (run : List ℕ) (e x : Part) (exif : PartAt run 0 225 exif_prefix e) (
       ap (λ (y : List ℕ × List ℕ). icc_in (take_part 225 xmp_prefix y.1).1 >>= λ i. ok (payloads y.0 (take_part 225 xmp_prefix y.1).0 i)) exif.is
       ∙ ap (λ (y : List ℕ × List ℕ). icc_in y.1 >>= λ i. ok (payloads (bytes_of run e) y.0 i)) xmp.is
 
-  module _ (j : Judged) (icc : judged_length 0 (icc_in (drop x.end run)) ≡ judgement_of j) where
-    there : j.good ≡ true → (icc_in (drop x.end run) ≡ ok (profile_in (drop x.end run))) × (length (profile_in (drop x.end run)) ≡ j.length)
-    unfolding profile_in
-    there g = judged-accepted j.length (icc_in (drop x.end run)) (icc ∙ select-true _ _ g)
+  pub found-none : judged_length 0 (icc_in (drop x.end run)) ≡ error 36 0 → FoundIn run None
+  found-none icc = import-is ∙ ap (λ (o : Outcome (List ℕ)). o >>= λ i. ok (given i)) (judged-refused _ icc)
 
-    pub found : FoundIn run (record { good = j.good; exif = e; xmp = x; icc_length = j.length })
-    found =
-        record {
-          exif-ordered = exif.ordered;
-          exif-inside = exif.inside;
-          apart = xmp.from;
-          xmp-ordered = xmp.ordered;
-          xmp-inside = xmp.inside;
-          refused = λ g. import-is ∙ ap (λ (o : Outcome (List ℕ)). o >>= λ i. ok (given i)) (judged-refused _ (icc ∙ select-false _ _ g));
-          accepted = λ g. import-is ∙ ap (λ (o : Outcome (List ℕ)). o >>= λ i. ok (given i)) (there g).0;
-          icc = λ g. (there g).0;
-          icc-length = λ g. (there g).1;
-        }
+  pub found-some : (n : ℕ) → judged_length 0 (icc_in (drop x.end run)) ≡ ok n → FoundIn run (Some (record { exif = e; xmp = x; icc_length = n }))
+  unfolding profile_in
+  found-some n icc =
+      let there = judged-accepted n (icc_in (drop x.end run)) icc in
+      record {
+        exif-ordered = exif.ordered;
+        exif-inside = exif.inside;
+        apart = xmp.from;
+        xmp-ordered = xmp.ordered;
+        xmp-inside = xmp.inside;
+        accepted = import-is ∙ ap (λ (o : Outcome (List ℕ)). o >>= λ i. ok (given i)) there.0;
+        icc = there.0;
+        icc-length = there.1;
+      }

@@ -1,10 +1,8 @@
 -- What is found at a place of a run.
-use Rattle.std.specs.Prelude.{◌≡◌, List, Bool, true, ℕ, zero, suc, ◌+◌, ◌-◌, ◌≤◌, eqb, length, take, drop}
-use Rattle.bpg_codec.specs.Select.{select}
+use Rattle.std.specs.Prelude.{◌≡◌, List, Bool, true, Option, Some, None, ℕ, zero, suc, ◌+◌, ◌-◌, ◌≤◌, eqb, length, take, drop}
 use Rattle.bpg_codec.specs.Outcome.{Outcome, ok, error}
 use Rattle.bpg_segment_rules.specs.Segments.{take_part}
 use Rattle.bpg_segment_reader.specs.declared.segment.Part.{Part}
-use Rattle.bpg_segment_reader.specs.declared.chunks.Judged.{Judged}
 
 -- the bytes of a part
 abbrev pub bytes_of : (run : List ℕ) → Part → List ℕ
@@ -26,5 +24,7 @@ unfoldable pub judged_length : ℕ → Outcome (List ℕ) → Outcome ℕ
 judged_length n (ok q) = ok (n + length q)
 judged_length n (error s o) = error s o
 
-abbrev pub judgement_of : Judged → Outcome ℕ
-judgement_of j = select j.good (ok j.length) (error 36 0)
+-- a length, or refusal 36
+abbrev pub judgement_of : Option ℕ → Outcome ℕ
+judgement_of (Some n) = ok n
+judgement_of None = error 36 0

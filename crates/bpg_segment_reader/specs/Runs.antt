@@ -1,5 +1,5 @@
 -- What is found in a run.
-use Rattle.std.specs.Prelude.{◌≡◌, true, false, List, [], ℕ, ◌≤◌, length, drop}
+use Rattle.std.specs.Prelude.{◌≡◌, List, [], ℕ, ◌≤◌, length, drop, Option, Some, None}
 use Rattle.bpg_codec.specs.Outcome.{Outcome, ok, error}
 use Rattle.bpg_segment_rules.specs.Runs.{payloads, icc_in, import_run}
 use Rattle.bpg_segment_reader.specs.declared.run.Found.{Found}
@@ -13,13 +13,17 @@ value_of (error s o) = []
 unfoldable pub profile_in : List ℕ → List ℕ
 profile_in l = value_of (icc_in l)
 
-pub record FoundIn (run : List ℕ) (r : Found) : Type 0 where
+-- of a run that export can make
+pub record PartsIn (run : List ℕ) (r : Found) : Type 0 where
   pub exif-ordered : r.exif.start ≤ r.exif.end
   pub exif-inside : r.exif.end ≤ length run
   pub apart : r.exif.end ≤ r.xmp.start
   pub xmp-ordered : r.xmp.start ≤ r.xmp.end
   pub xmp-inside : r.xmp.end ≤ length run
-  pub refused : r.good ≡ false → import_run run ≡ error 36 0
-  pub accepted : r.good ≡ true → import_run run ≡ ok (payloads (bytes_of run r.exif) (bytes_of run r.xmp) (profile_in (drop r.xmp.end run)))
-  pub icc : r.good ≡ true → icc_in (drop r.xmp.end run) ≡ ok (profile_in (drop r.xmp.end run))
-  pub icc-length : r.good ≡ true → length (profile_in (drop r.xmp.end run)) ≡ r.icc_length
+  pub accepted : import_run run ≡ ok (payloads (bytes_of run r.exif) (bytes_of run r.xmp) (profile_in (drop r.xmp.end run)))
+  pub icc : icc_in (drop r.xmp.end run) ≡ ok (profile_in (drop r.xmp.end run))
+  pub icc-length : length (profile_in (drop r.xmp.end run)) ≡ r.icc_length
+
+abbrev pub FoundIn : (run : List ℕ) → Option Found → Type 0
+FoundIn run (Some r) = PartsIn run r
+FoundIn run None = import_run run ≡ error 36 0

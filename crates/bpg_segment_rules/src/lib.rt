@@ -4,4 +4,4 @@
 
 mod answer;
 
-pub use answer::{Imported, import_refused};
+pub use answer::Imported;

@@ -1,7 +1,7 @@
 -- What the writers of segments have written.
 use mathlib.Core.Path.{◌≡◌, sym, ap, ap₂, ◌∙◌}
 use mathlib.Core.List.{List, [], ◌∷◌, ◌++◌, append_assoc, append-nil}
-use Prim.Native.Nat.{ℕ, suc, ◌+◌, ◌-◌, ◌*◌, ◌≤◌, ◌<◌, min}
+use Prim.Native.Nat.{ℕ, suc, ◌+◌, ◌-◌, ◌*◌, ◌/◌, ◌≤◌, ◌<◌, min}
 use native.Mathlib.Omega.{arith}
 use native.Mathlib.Numerals.{add-one}
 use lib.ListN.{length, take, drop, length-append, length-drop}
@@ -9,9 +9,9 @@ use lib.Seq.{take_all, drop-drop}
 use Rattle.bpg_codec.proofs.Lists.{either_way}
 use Rattle.bpg_writer.proofs.PutLaws.{Put, put-end, put-none, put_same, put_then}
 use Rattle.bpg_segment_rules.specs.Segments.{header, segment, part}
-use Rattle.bpg_segment_rules.specs.Runs.{icc_prefix, chunks}
+use Rattle.bpg_segment_rules.specs.Runs.{icc_prefix, icc_run, chunks}
 use Rattle.bpg_segment_rules.proofs.SegmentLaws.{part_none, part-some}
-use Rattle.bpg_segment_rules.proofs.ChunkLaws.{chunks-none, chunks-more}
+use Rattle.bpg_segment_rules.proofs.ChunkLaws.{count-is, chunks-none, chunks-more}
 
 segment-is : (marker : ℕ) (a b : List ℕ) → header marker (length a + length b) ++ (a ++ b) ≡ segment marker (a ++ b)
 unfolding segment
@@ -52,6 +52,10 @@ cut-is i a h =
 -- the loop over chunks: k of n are written
 abbrev pub Chunked : (i : List ℕ) (n : ℕ) (out : List ℕ) (at : ℕ) (after : List ℕ) (next k : ℕ) → Type 0
 Chunked i n out at after next k = (done : List ℕ) × (done ++ chunks (n - k) (k + 1) n (drop (k * 65519) i) ≡ chunks n 1 n i) × Put out at done after next
+
+-- the whole run of chunks, by how many the code counts
+pub run_is : (i : List ℕ) (n : ℕ) → n ≡ (length i + 65518) / 65519 → chunks n 1 n i ≡ icc_run i
+run_is i n e = ap (λ (m : ℕ). chunks m 1 m i) (e ∙ sym (count-is i))
 
 module _ (i : List ℕ) (n : ℕ) (out : List ℕ) (at : ℕ) (fits : at + length (chunks n 1 n i) ≤ length out) where
   pub chunked-none : Chunked i n out at out at 0

@@ -2,9 +2,9 @@
 ghost use Rattle.std.specs.Prelude.{◌≡◌, ◌++◌, ◌+◌, ◌≤◌, length as count};
 ghost use Rattle.bpg_codec.specs.Buffer.{written, written_end};
 ghost use Rattle.bpg_segment_rules.specs.Segments.{header as header_of, segment as segment_of, part as part_of};
-ghost use Rattle.bpg_segment_rules.specs.Runs.{icc_prefix, icc_run, chunk_count};
+ghost use Rattle.bpg_segment_rules.specs.Runs.{icc_prefix, icc_run, chunk_count as count_of};
 
-use bpg_bytes::arithmetic::least;
+use crate::size::chunk_count;
 use bpg_bytes::{BytePos, buffer};
 
 // The payload bytes of every chunk but the last.
@@ -46,7 +46,7 @@ pub(crate) fn part(
     ensures out_after { out.new ≡ written out.old at.0 (part_of marker prefix.now payload.now) }
     ensures result_value { result.0 ≡ written_end out.old at.0 (part_of marker prefix.now payload.now) }
 {
-    if payload.len() == 0 {
+    if payload.is_empty() {
         return at;
     }
     segment(out, at, marker, prefix, payload)
@@ -65,27 +65,18 @@ fn chunk(out: &mut [u8], at: BytePos, number: u8, total: u8, payload: &[u8]) -> 
 
 // The chunks of a profile.
 pub(crate) fn profile(out: &mut [u8], at: BytePos, payload: &[u8]) -> BytePos
-    requires payload_bound { chunk_count payload.now ≤ 255 }
+    requires payload_bound { count_of payload.now ≤ 255 }
     requires payload_bound_2 { at.0 + count (icc_run payload.now) ≤ count out.old }
     ensures out_after { out.new ≡ written out.old at.0 (icc_run payload.now) }
     ensures result_value { result.0 ≡ written_end out.old at.0 (icc_run payload.now) }
 {
-    let len = payload.len();
-    let total = (len + 65_518) / CHUNK_SIZE;
-    let mut next = at.0;
-    let mut k: usize = 0;
-    while k < total {
+    let total = chunk_count(payload.len());
+    let mut next = at;
+    // By its number, which each chunk is written with: over `chunks` what is left of the payload is known of the iterator alone, which is no plainer.
+    for k in 0..total {
         let from = k * CHUNK_SIZE;
-        let to = least(from + CHUNK_SIZE, len);
-        next = chunk(
-            out,
-            BytePos(next),
-            (k + 1) as u8,
-            total as u8,
-            &payload[from..to],
-        )
-        .0;
-        k += 1;
+        let to = (from + CHUNK_SIZE).min(payload.len());
+        next = chunk(out, next, (k + 1) as u8, total as u8, &payload[from..to]);
     }
-    BytePos(next)
+    next
 }

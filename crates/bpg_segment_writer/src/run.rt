@@ -5,7 +5,8 @@ ghost use Rattle.bpg_segment_rules.specs.Calls.{export_payloads, export_buffer};
 
 use crate::{emit, size};
 use bpg_bytes::BytePos;
-use bpg_format::{Written, written_refused};
+use bpg_format::Written;
+use bpg_refusal::Reason;
 
 // The payloads as segments from the start of `out`: EXIF, XMP, ICC. An empty payload has no segment. All is judged before a byte is stored.
 pub fn write_run(exif: &[u8], xmp: &[u8], icc: &[u8], out: &mut [u8]) -> Written
@@ -13,18 +14,14 @@ pub fn write_run(exif: &[u8], xmp: &[u8], icc: &[u8], out: &mut [u8]) -> Written
     ensures out_after { out.new ≡ export_buffer (payloads exif.now xmp.now icc.now) out.old }
 {
     if !size::within_limits(exif.len(), xmp.len(), icc.len()) {
-        return written_refused(34, 0);
+        return Written::refused(Reason::PayloadTooLong.at(BytePos(0)));
     }
     let count = size::run(exif.len(), xmp.len(), icc.len());
     if out.len() < count {
-        return written_refused(20, 0);
+        return Written::refused(Reason::BufferTooSmall.at(BytePos(0)));
     }
     let p = emit::part(out, BytePos(0), 0xe1, b"Exif\0\0", exif);
     let q = emit::part(out, p, 0xe1, b"http://ns.adobe.com/xap/1.0/\0", xmp);
     emit::profile(out, q, icc);
-    Written {
-        status: 0,
-        offset: 0,
-        count,
-    }
+    Written::of(count)
 }

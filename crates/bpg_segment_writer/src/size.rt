@@ -17,17 +17,21 @@ fn part(prefix: usize, size: usize) -> usize
     requires size_bound { size ≤ 65533 }
     ensures { (result ≡ part_size prefix size) × (result ≤ 131070) }
 {
-    if size == 0 {
-        return 0;
-    }
-    4 + prefix + size
+    if size == 0 { 0 } else { 4 + prefix + size }
+}
+
+// How many chunks a profile of this length has.
+pub(crate) fn chunk_count(size: usize) -> usize
+    ensures { result ≡ (size + 65518) / 65519 }
+{
+    size.div_ceil(CHUNK_SIZE)
 }
 
 fn profile(size: usize) -> usize
     requires { size ≤ 16707345 }
     ensures { (result ≡ profile_size size) × (result ≤ 16800000) }
 {
-    size + (size + 65_518) / CHUNK_SIZE * 18
+    size + chunk_count(size) * 18
 }
 
 pub(crate) fn run(exif: usize, xmp: usize, icc: usize) -> usize

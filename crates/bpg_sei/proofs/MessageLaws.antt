@@ -1,6 +1,8 @@
 -- Payloads, messages, and all messages of a unit: one equation for each case.
 use mathlib.Core.Path.{◌≡◌, refl, sym, ap, ◌∙◌}
-use mathlib.Core.Bool.{true, false, not}
+use mathlib.Core.Bool.{Bool, true, false, not, false≢true}
+use Rattle.std.proofs.Common.{Option, Some, None, MatchOption}
+use Rattle.std.specs.Option.{is_some}
 use mathlib.Core.List.{List, [], ◌∷◌, ◌++◌}
 use Prim.Native.Nat.{ℕ, zero, suc, ◌+◌, ◌*◌, ◌≤◌, ◌<◌}
 use native.Mathlib.Nat.{le_refl}
@@ -14,7 +16,7 @@ use Rattle.bpg_codec.proofs.Lists.{either_way}
 use Rattle.bpg_codec.proofs.Outcome.{error-not-ok, ok-injective, unbind, unguard}
 use Rattle.bpg_codec.proofs.Select.{select-true, select-false}
 use Rattle.bpg_nal_units.proofs.Cases.{by-test, by_equal}
-use Rattle.bpg_sei.specs.declared.content.Step.{Step}
+use Rattle.bpg_bytes.specs.declared.position.Located.{Located}
 use Rattle.bpg_sei.specs.declared.content.Cursor.{Cursor}
 use Rattle.bpg_sei.specs.Messages.{Read, sum_from, payload_of, message_of, ends, messages_up_to, messages_from}
 use Rattle.bpg_sei.specs.Steps.{left_at, Stepped}
@@ -30,12 +32,15 @@ pub ends-other : (l : List ℕ) (b : ℕ) (m : List ℕ) → l ≡ b ∷ m → (
 unfolding ends
 ends-other l b m e h = rw (e, ne_eqb b 128 h) (by-test (eqb (suc (length m)) 1) (λ f. rw f) (λ f. rw f))
 
-pub ends_last : (u l : List ℕ) (c : Cursor) (b : ℕ) (s : Step) → Stepped u c s → l ≡ b ∷ left_at u c → b ≡ 128 → not s.more ≡ ends l
+-- the 80 is the last byte where none stands behind it
+pub ends-by : (u l : List ℕ) (c : Cursor) (b : ℕ) (r : Option (Located ℕ Cursor)) → MatchOption r (left_at u c ≡ []) (Stepped u c)
+    → l ≡ b ∷ left_at u c → b ≡ 128 → (t : Bool) → is_some r ≡ not t → t ≡ ends l
 unfolding ends
-ends_last u l c b s w e h =
-    by-test s.more
-    (λ t. let n = ap length (w.found t).0 in rw (e, t, ne_eqb (suc (length (left_at u c))) 1 (λ q. omega arith)))
-    (λ f. rw (e, f, w.none f, h))
+ends-by u l c b None w e h true k = rw (e, w, h)
+ends-by u l c b None w e h false k = absurd (false≢true k)
+ends-by u l c b (Some x) w e h true k = absurd (false≢true (sym k))
+ends-by u l c b (Some x) w e h false k =
+    let n = ap length w.same in rw (e, ne_eqb (suc (length (left_at u c))) 1 (λ q. omega arith))
 
 -- ---- a payload
 
@@ -43,9 +48,9 @@ pub pay-short : (t n : ℕ) (l : List ℕ) → length l < n → payload_of t n l
 unfolding payload_of
 pay-short t n l h = rw (lt-leb n (length l) h)
 
-pub pay-odd : (n : ℕ) (l : List ℕ) → (n ≡ 2 → ⊥) → payload_of 257 n l ≡ error 22 0
+pub pay_odd : (n : ℕ) (l : List ℕ) → (n ≡ 2 → ⊥) → payload_of 257 n l ≡ error 22 0
 unfolding payload_of
-pay-odd n l h =
+pay_odd n l h =
     either_way n (length l)
     (λ k. rw (le-leb n (length l) k, ne_eqb n 2 h) (select-true _ _ refl))
     (λ k. rw (lt-leb n (length l) k))

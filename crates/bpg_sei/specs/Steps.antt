@@ -1,13 +1,10 @@
--- What the steps of reading answer: each is found, and where reading goes on; or the content is cut short.
-use Rattle.std.specs.Prelude.{Bool, true, false, ◌≡◌, List, [], ◌∷◌, ℕ, min, ◌+◌, ◌≤◌, ◌<◌, ◌^◌, length, drop}
-use Rattle.bpg_codec.specs.Outcome.{Outcome, ok, error}
-use Rattle.bpg_nal_emulation.specs.Emulation.{content_at}
+-- What the steps of reading answer where the content goes on that far, and where reading goes on.
+use Rattle.std.specs.Prelude.{Option, Some, None, ◌≡◌, List, [], ◌∷◌, ℕ, min, ◌+◌, ◌-◌, ◌≤◌, ◌<◌, ◌^◌, length, drop}
+use Rattle.bpg_codec.specs.Outcome.{Outcome, ok, error, ◌>>=◌}
+use Rattle.bpg_bytes.specs.declared.position.Located.{Located}
+use Rattle.bpg_nal_emulation.specs.Emulation.{zeros_after, content_at}
 use Rattle.bpg_sei.specs.declared.content.Cursor.{Cursor}
-use Rattle.bpg_sei.specs.declared.content.Step.{Step}
-use Rattle.bpg_sei.specs.declared.sum.Sum.{Sum}
-use Rattle.bpg_sei.specs.declared.message.Place.{Place}
-use Rattle.bpg_sei.specs.declared.message.Message.{Message}
-use Rattle.bpg_sei.specs.declared.messages.Sei.{Sei}
+use Rattle.bpg_sei.specs.declared.messages.Durations.{Durations}
 use Rattle.bpg_sei.specs.Messages.{sum_from, payload_of, message_of}
 
 -- the content of a unit that is left
@@ -19,38 +16,47 @@ pub record Onward (u : List ℕ) (c d : Cursor) : Type 0 where
   pub further : c.at.0 < d.at.0
   pub inside : d.at.0 ≤ length u
 
-pub record Stepped (u : List ℕ) (c : Cursor) (s : Step) : Type 0 where
-  pub found : s.more ≡ true → (left_at u c ≡ s.byte ∷ left_at u s.next) × Onward u c s.next
-  pub none : s.more ≡ false → left_at u c ≡ []
+-- a byte at i after z zeros
+abbrev pub passed : (byte i z : ℕ) → Located ℕ Cursor
+passed b i z = record { value = b; next = record { at = record { 0 = i + 1 }; zeros = zeros_after z b } }
 
--- a sum v is answered as the smaller of v and 2^63
-pub record Summed (u : List ℕ) (c : Cursor) (s : Sum) : Type 0 where
-  pub found : s.more ≡ true → (v : ℕ) × (s.value ≡ min v (2 ^ 63)) × (sum_from (left_at u c) 0 ≡ ok (v, left_at u s.next)) × Onward u c s.next
-  pub none : s.more ≡ false → sum_from (left_at u c) 0 ≡ error 22 0
+-- a byte of the content
+pub record Stepped (u : List ℕ) (c : Cursor) (x : Located ℕ Cursor) : Type 0 where
+  pub same : left_at u c ≡ x.value ∷ left_at u x.next
+  pub onward : Onward u c x.next
 
-pub record Skipped (u : List ℕ) (c : Cursor) (n : ℕ) (p : Place) : Type 0 where
-  pub found : p.more ≡ true → (n ≤ length (left_at u c)) × (drop n (left_at u c) ≡ left_at u p.next) × (c.at.0 ≤ p.next.at.0)
-      × (c.at.0 ≤ length u → p.next.at.0 ≤ length u)
-  pub none : p.more ≡ false → length (left_at u c) < n
+-- a sum v is answered as the smaller of v and 2^64 - 1
+pub record Summed (u : List ℕ) (c : Cursor) (x : Located ℕ Cursor) : Type 0 where
+  pub v : ℕ
+  pub value-is : x.value ≡ min v (2 ^ 64 - 1)
+  pub same : sum_from (left_at u c) 0 ≡ ok (v, left_at u x.next)
+  pub onward : Onward u c x.next
+
+-- n bytes are passed over
+pub record Skipped (u : List ℕ) (c : Cursor) (n : ℕ) (d : Cursor) : Type 0 where
+  pub there : n ≤ length (left_at u c)
+  pub same : drop n (left_at u c) ≡ left_at u d
+  pub no-back : c.at.0 ≤ d.at.0
+  pub stays : c.at.0 ≤ length u → d.at.0 ≤ length u
+
+pub record DurationRead (u : List ℕ) (c : Cursor) (n : ℕ) (x : Located ℕ Cursor) : Type 0 where
+  pub same : payload_of 257 n (left_at u c) ≡ ok (x.value ∷ [], left_at u x.next)
+  pub onward : Onward u c x.next
 
 -- the duration that a message sets, if it sets one
-abbrev pub set : (timed : Bool) (duration : ℕ) → List ℕ
-set true d = d ∷ []
-set false d = []
+abbrev pub set : Option ℕ → List ℕ
+set (Some d) = d ∷ []
+set None = []
 
-pub record DurationRead (u : List ℕ) (c : Cursor) (n : ℕ) (m : Message) : Type 0 where
-  pub found : m.more ≡ true → (payload_of 257 n (left_at u c) ≡ ok (set m.timed m.duration, left_at u m.next)) × Onward u c m.next
-  pub none : m.more ≡ false → payload_of 257 n (left_at u c) ≡ error 22 0
-
-pub record MessageRead (u : List ℕ) (c : Cursor) (m : Message) : Type 0 where
-  pub found : m.more ≡ true → (message_of (left_at u c) ≡ ok (set m.timed m.duration, left_at u m.next)) × Onward u c m.next
-  pub none : m.more ≡ false → message_of (left_at u c) ≡ error 22 0
+pub record MessageRead (u : List ℕ) (c : Cursor) (x : Located (Option ℕ) Cursor) : Type 0 where
+  pub same : message_of (left_at u c) ≡ ok (set x.value, left_at u x.next)
+  pub onward : Onward u c x.next
 
 -- ---- what the call answers
 
-abbrev pub heard : Sei → (timed : Bool) (duration : ℕ) → Sei
-heard s true d = record { status = 0; count = s.count + 1; duration = d }
-heard s false d = s
+abbrev pub heard : Durations → Option ℕ → Durations
+heard s (Some d) = record { count = s.count + 1; last = d }
+heard s None = s
 
 -- the last of the durations; 0 where there is none
 unfoldable pub last_of : List ℕ → ℕ
@@ -58,6 +64,14 @@ last_of [] = 0
 last_of (d ∷ []) = d
 last_of (d ∷ e ∷ ds) = last_of (e ∷ ds)
 
-abbrev pub sei_answer : Outcome (List ℕ) → Sei
-sei_answer (ok ds) = record { status = 0; count = length ds; duration = last_of ds }
-sei_answer (error s o) = record { status = s; count = 0; duration = 0 }
+-- the durations by their number and the last
+abbrev pub summary : List ℕ → Durations
+summary ds = record { count = length ds; last = last_of ds }
+
+abbrev pub summed_up : Outcome (List ℕ) → Outcome Durations
+summed_up o = o >>= λ ds. ok (summary ds)
+
+-- an answer, or refusal 22 at the unit's first byte
+abbrev pub or_22 : {A : Type 0} → Option A → Outcome A
+or_22 (Some x) = ok x
+or_22 None = error 22 0

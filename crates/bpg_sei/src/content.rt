@@ -1,9 +1,9 @@
 // The content of a unit, byte by byte.
-ghost use Rattle.std.specs.Prelude.{◌≡◌};
+ghost use Rattle.std.specs.Prelude.{◌≡◌, [], ◌<◌, ◌^◌, MatchOption};
 ghost use Rattle.bpg_nal_emulation.specs.Emulation.{zeros_after, is_mark};
-ghost use Rattle.bpg_sei.specs.Steps.{Stepped};
+ghost use Rattle.bpg_sei.specs.Steps.{left_at, Stepped, passed};
 
-use bpg_bytes::BytePos;
+use bpg_bytes::{BytePos, Located};
 
 // Where reading stands: an offset in the unit, and the zeros in a row before it, of which two count.
 #[derive(Clone, Copy)]
@@ -12,24 +12,17 @@ pub struct Cursor {
     pub zeros: u8,
 }
 
-// A byte of the content, if any is left, and where reading goes on.
-#[derive(Clone, Copy)]
-pub struct Step {
-    pub more: bool,
-    pub byte: u8,
-    pub next: Cursor,
-}
-
+#[tactic(auto, unfolding(bpg_nal_emulation::specs::Emulation::zeros_after, bpg_codec::specs::Select::select))]
 fn zeros_after(zeros: u8, byte: u8) -> u8
     ensures { result ≡ zeros_after zeros byte }
 {
     if byte != 0 {
-        return 0;
+        0
+    } else if zeros == 0 {
+        1
+    } else {
+        2
     }
-    if zeros == 0 {
-        return 1;
-    }
-    2
 }
 
 // An emulation prevention byte.
@@ -39,44 +32,32 @@ fn is_mark(zeros: u8, byte: u8) -> bool
     (zeros == 2) & (byte == 3)
 }
 
-// The byte at `cursor`.
-pub(crate) fn next(unit: &[u8], cursor: Cursor) -> Step
-    ensures { Stepped unit.now cursor result }
+// A byte of the content that stands at `at` after `zeros` zeros, and the place behind it.
+fn passed(byte: u8, at: usize, zeros: u8) -> Located<u8, Cursor>
+    requires { at < 2 ^ 63 }
+    ensures { result ≡ passed byte at zeros }
 {
-    let at = cursor.at.0;
-    if unit.len() <= at {
-        return Step {
-            more: false,
-            byte: 0,
-            next: cursor,
-        };
-    }
-    let byte = unit[at];
-    let behind = at + 1;
-    if !is_mark(cursor.zeros, byte) {
-        return Step {
-            more: true,
-            byte,
-            next: Cursor {
-                at: BytePos(behind),
-                zeros: zeros_after(cursor.zeros, byte),
-            },
-        };
-    }
-    if unit.len() <= behind {
-        return Step {
-            more: false,
-            byte: 0,
-            next: cursor,
-        };
-    }
-    let byte = unit[behind];
-    Step {
-        more: true,
-        byte,
+    Located {
+        value: byte,
         next: Cursor {
-            at: BytePos(behind + 1),
-            zeros: zeros_after(0, byte),
+            at: BytePos(at + 1),
+            zeros: zeros_after(zeros, byte),
         },
+    }
+}
+
+impl Cursor {
+    // The byte of the content here, if any is left.
+    pub(crate) fn next(self, unit: &[u8]) -> Option<Located<u8, Cursor>>
+        ensures { MatchOption result (left_at unit.now self ≡ []) (Stepped unit.now self) }
+    {
+        let at = self.at.0;
+        let byte = *unit.get(at)?;
+        if !is_mark(self.zeros, byte) {
+            return Some(passed(byte, at, self.zeros));
+        }
+        let behind = at + 1;
+        let byte = *unit.get(behind)?;
+        Some(passed(byte, behind, 0))
     }
 }

@@ -6,4 +6,4 @@ mod message;
 mod messages;
 mod sum;
 
-pub use messages::{Sei, read};
+pub use messages::{Durations, read};

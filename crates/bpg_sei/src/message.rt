@@ -1,111 +1,56 @@
-// One message: its payload's type and size, and its payload.
-ghost use Rattle.std.specs.Prelude.{false, ◌≡◌};
-ghost use Rattle.bpg_sei.specs.Steps.{Skipped, DurationRead, MessageRead};
+// One message: its payload's type and size, and its payload. None is refusal 22: the content is cut short, or a duration is not of two bytes.
+ghost use Rattle.std.specs.Prelude.{◌≡◌, ◌<◌, length, MatchOption};
+ghost use Rattle.bpg_codec.specs.Outcome.{error};
+ghost use Rattle.bpg_sei.specs.Messages.{payload_of, message_of};
+ghost use Rattle.bpg_sei.specs.Steps.{left_at, Skipped, DurationRead, MessageRead};
 
 use crate::content::Cursor;
-use crate::{content, sum};
+use crate::sum;
+use bpg_bytes::Located;
 
 // The payload type of a frame's duration.
 const FRAME_DURATION: usize = 257;
 
-// Where reading goes on, if the content goes on that far.
-#[derive(Clone, Copy)]
-pub struct Place {
-    pub more: bool,
-    pub next: Cursor,
-}
-
-// A message: whether it is a duration, and which. `more` is false where the content is cut short, and for a duration that is not of two bytes: both
-// are refusal 22.
-#[derive(Clone, Copy)]
-pub struct Message {
-    pub more: bool,
-    pub timed: bool,
-    pub duration: u16,
-    pub next: Cursor,
-}
-
-fn cut_short(cursor: Cursor) -> Message
-    ensures { result.more ≡ false }
+// The place `count` bytes further on, if the content goes on that far.
+fn skip(unit: &[u8], cursor: Cursor, count: usize) -> Option<Cursor>
+    ensures { MatchOption result (length (left_at unit.now cursor) < count) (Skipped unit.now cursor count) }
 {
-    Message {
-        more: false,
-        timed: false,
-        duration: 0,
-        next: cursor,
-    }
-}
-
-// `count` bytes further on.
-fn skip(unit: &[u8], cursor: Cursor, count: usize) -> Place
-    ensures { Skipped unit.now cursor count result }
-{
-    let mut left = count;
     let mut at = cursor;
-    while 0 < left {
-        let step = content::next(unit, at);
-        if !step.more {
-            return Place {
-                more: false,
-                next: cursor,
-            };
-        }
-        at = step.next;
-        left -= 1;
+    for _ in 0..count {
+        at = at.next(unit)?.next;
     }
-    Place {
-        more: true,
-        next: at,
-    }
+    Some(at)
 }
 
 // A duration of `size` bytes, which are to be two.
-fn duration(unit: &[u8], cursor: Cursor, size: usize) -> Message
-    ensures { DurationRead unit.now cursor size result }
+#[tactic(auto, using(crate::proofs::MessageLaws::pay_odd))]
+fn duration(unit: &[u8], cursor: Cursor, size: usize) -> Option<Located<u16, Cursor>>
+    ensures { MatchOption result (payload_of 257 size (left_at unit.now cursor) ≡ error 22 0) (DurationRead unit.now cursor size) }
 {
     if size != 2 {
-        return cut_short(cursor);
+        return None;
     }
-    let high = content::next(unit, cursor);
-    if !high.more {
-        return cut_short(cursor);
-    }
-    let low = content::next(unit, high.next);
-    if !low.more {
-        return cut_short(cursor);
-    }
-    let next = low.next;
-    Message {
-        more: true,
-        timed: true,
-        duration: (high.byte as u16) * 256 + (low.byte as u16),
-        next,
-    }
+    let high = cursor.next(unit)?;
+    let low = high.next.next(unit)?;
+    Some(Located {
+        value: u16::from(high.value) * 256 + u16::from(low.value),
+        next: low.next,
+    })
 }
 
-pub(crate) fn read(unit: &[u8], cursor: Cursor) -> Message
-    ensures { MessageRead unit.now cursor result }
+// The duration that the message here sets, if it sets one.
+pub(crate) fn read(unit: &[u8], cursor: Cursor) -> Option<Located<Option<u16>, Cursor>>
+    ensures { MatchOption result (message_of (left_at unit.now cursor) ≡ error 22 0) (MessageRead unit.now cursor) }
 {
-    let kind = sum::read(unit, cursor);
-    if !kind.more {
-        return cut_short(cursor);
-    }
-    let size = sum::read(unit, kind.next);
-    if !size.more {
-        return cut_short(cursor);
-    }
+    let kind = sum::read(unit, cursor)?;
+    let size = sum::read(unit, kind.next)?;
     if kind.value == FRAME_DURATION {
-        return duration(unit, size.next, size.value);
+        let duration = duration(unit, size.next, size.value)?;
+        return Some(Located {
+            value: Some(duration.value),
+            next: duration.next,
+        });
     }
-    let past = skip(unit, size.next, size.value);
-    if !past.more {
-        return cut_short(cursor);
-    }
-    let next = past.next;
-    Message {
-        more: true,
-        timed: false,
-        duration: 0,
-        next,
-    }
+    let next = skip(unit, size.next, size.value)?;
+    Some(Located { value: None, next })
 }

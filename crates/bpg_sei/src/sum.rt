@@ -1,44 +1,26 @@
 // Payload types and payload sizes: 255 for each byte FF, and the first other byte.
-ghost use Rattle.bpg_sei.specs.Steps.{Summed};
+ghost use Rattle.std.specs.Prelude.{◌≡◌, MatchOption};
+ghost use Rattle.bpg_codec.specs.Outcome.{error};
+ghost use Rattle.bpg_sei.specs.Messages.{sum_from};
+ghost use Rattle.bpg_sei.specs.Steps.{left_at, Summed};
 
-use crate::content;
 use crate::content::Cursor;
-use bpg_bytes::arithmetic::least;
+use bpg_bytes::Located;
 
-// No content is that long: a size above it is cut short all the same, and no type above 257 matters.
-pub const LIMIT: usize = 9_223_372_036_854_775_808;
-
-// A sum, at most LIMIT, if the content goes on to its end, and where reading goes on.
-#[derive(Clone, Copy)]
-pub struct Sum {
-    pub more: bool,
-    pub value: usize,
-    pub next: Cursor,
-}
-
-pub(crate) fn read(unit: &[u8], cursor: Cursor) -> Sum
-    ensures { Summed unit.now cursor result }
+// A sum, if the content goes on to its end. No content is as long as the largest `usize`, so a size above it is cut short all the same; and no type
+// above 257 matters.
+pub(crate) fn read(unit: &[u8], cursor: Cursor) -> Option<Located<usize, Cursor>>
+    ensures { MatchOption result (sum_from (left_at unit.now cursor) 0 ≡ error 22 0) (Summed unit.now cursor) }
 {
     let mut value: usize = 0;
     let mut at = cursor;
+    // A `loop`, and no `for`: the next byte stands where this one ends, one or two bytes on.
     loop {
-        let step = content::next(unit, at);
-        if !step.more {
-            return Sum {
-                more: false,
-                value: 0,
-                next: cursor,
-            };
-        }
-        let byte = step.byte;
-        value = least(value + byte as usize, LIMIT);
+        let step = at.next(unit)?;
+        value = value.saturating_add(usize::from(step.value));
         at = step.next;
-        if byte != 255 {
-            return Sum {
-                more: true,
-                value,
-                next: at,
-            };
+        if step.value != 255 {
+            return Some(Located { value, next: at });
         }
     }
 }

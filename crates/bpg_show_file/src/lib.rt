@@ -5,6 +5,7 @@ ghost use Rattle.std.specs.Prelude.{◌≡◌};
 ghost use Rattle.bpg_codec.specs.Buffer.{written, written_end};
 ghost use Rattle.bpg_show_file.specs.Summary.{summary_of};
 
+use bpg_refusal::Reason;
 use bpg_show_line::line;
 
 // A longer file is refused, though the library reads it.
@@ -16,7 +17,7 @@ pub fn write(file: &[u8], out: &mut [u8]) -> usize
     ensures value { result ≡ written_end out.old 0 (summary_of file.now) }
 {
     if SUMMARY_LIMIT < file.len() {
-        return line::write_refused(1, 0, out);
+        return line::write_refused(Reason::FileTooLong.number(), 0, out);
     }
     line::write(bpg_reader::read(file), out)
 }

@@ -9,6 +9,7 @@ use Rattle.bpg_codec.specs.Buffer.{splice, written, written_end}
 use Rattle.bpg_codec.proofs.Buffer.{stored}
 use Rattle.bpg_codec.proofs.Lists.{drop-replicate}
 use Rattle.bpg_show_line.specs.declared.line_buffer.LineBuffer.{LineBuffer}
+use Rattle.bpg_show_line.specs.Text.{decimal}
 use Rattle.bpg_show_line.specs.LineBuffer.{line_size, holding, appended}
 
 -- text after text and zeros
@@ -40,9 +41,14 @@ gathered-text {b} {c} {l} m g e =
           e ∙ ap (λ (x : LineBuffer). appended x m) (g.holds (omega (arith, h, length-append l m))) ∙ append-holding l m h;
     }
 
--- a label and a number
-pub gathered-labelled : {b c : LineBuffer} {l : List ℕ} (m n : List ℕ) → Gathered b l → c ≡ appended (appended b m) n → Gathered c (l ++ m ++ n)
-gathered-labelled m n g e = gathered-text n (gathered-text m g refl) e
+-- text that a call gave
+pub gathered-same : {b c : LineBuffer} {l m n : List ℕ} → Gathered b l → c ≡ appended b m → m ≡ n → Gathered c (l ++ n)
+gathered-same {b} {c} {n = n} g e f = gathered-text n g (e ∙ ap (appended b) f)
+
+-- a label, and a number that was converted first
+pub gathered-labelled : {b c : LineBuffer} {l : List ℕ} (m : List ℕ) {v w : ℕ} → Gathered b l → c ≡ appended (appended b m) (decimal w) → w ≡ v
+    → Gathered c (l ++ m ++ decimal v)
+gathered-labelled m g e f = gathered-same (gathered-text m g refl) e (ap decimal f)
 
 -- what is written of a buffer that holds text is the text
 pub writes : (out filled : List ℕ) (n : ℕ) (b : LineBuffer) (l : List ℕ) → b ≡ holding l

@@ -4,12 +4,12 @@ use mathlib.Core.Bool.{Bool, true, false}
 use Prim.Native.Nat.{ℕ, ◌+◌, ◌^◌, ◌≤◌, ◌<◌}
 use native.Mathlib.Omega.{arith}
 use lib.ListN.{length, length-append}
-use mir.Val.{WT}
-use denote.Struct.Laws.{val}
+use mathlib.Core.List.{List}
+use mir.Val.{Val}
+use denote.Laws.{Is}
 use borrow.Author.Tests.{eq-eqb, ne_eqb}
 use Rattle.bpg_codec.proofs.Select.{select-true, select-false}
-use Rattle.bpg_format.specs.contracts.record.Record.{the_type}
-use Rattle.bpg_format.proofs.record.Record.TheLaws.{the_laws}
+use Rattle.bpg_format.specs.contracts.record.Record as record-type
 use Rattle.bpg_format.specs.declared.record.Record.{Record}
 use Rattle.bpg_format.specs.declared.answer.Reading.{Reading}
 use Rattle.bpg_show_line.specs.Text.{ascii}
@@ -55,7 +55,7 @@ pub record Printable (r : Record) : Type 0 where
   pub size : r.«data».length < 2 ^ 32
 
 -- which the fields of a record in the code are
-pub printable : (r : Record) → WT (val the_type the_laws r) → Printable r
+pub printable : (r : Record) {vs : List Val} → Is record-type.the_row r vs → Printable r
 printable r k = omega arith
 
 pub length-accepted : (r : Record) → Printable r → length (accepted_line r) ≤ line_size

@@ -8,8 +8,8 @@
 
 ghost use Rattle.std.specs.Prelude.{◌≡◌, length as count};
 
+use bpg_cases::{ShowCase, bytes_at, for_each_case, text};
 use bpg_format::{Entry, MAX_ENTRIES, Range, Record, Written};
-use bpg_hex::HexLine;
 
 // So many that 64 entries over them make a file that is too long.
 const ZEROS: usize = 1_100_000;
@@ -21,11 +21,9 @@ fn zeros() -> [u8; ZEROS]
 }
 
 fn show_answer(answer: Written) {
-    io::print_decimal(1, answer.status as u64);
-    io::write_all(1, b" ");
-    io::print_decimal(1, answer.offset as u64);
-    io::write_all(1, b" ");
-    io::print_decimal(1, answer.count as u64);
+    text::show_number(b"", answer.status);
+    text::show_number(b" ", answer.offset as u64);
+    text::show_number(b" ", answer.count as u64);
 }
 
 // Canonicalizes into a buffer of this size.
@@ -39,17 +37,13 @@ fn show_canonicalized(file: &[u8], size: usize) {
 fn show_sizes(file: &[u8]) {
     let size = bpg_canonical::size(file);
     show_answer(size);
-    io::write_all(1, b" | ");
+    text::show(b" | ");
     show_canonicalized(file, size.count);
-    io::write_all(1, b" | ");
+    text::show(b" | ");
     let reading = bpg_reader::read(file);
     let record = reading.record;
     show_answer(bpg_writer::size(record, file));
-    io::write_all(1, b"\n");
-}
-
-fn number(a: u8, b: u8, c: u8, d: u8) -> u32 {
-    (a as u32 * 256 + b as u32) * 65_536 + c as u32 * 256 + d as u32
+    text::show(b"\n");
 }
 
 // All entries are alike, whatever their count.
@@ -62,64 +56,48 @@ fn changed(record: Record, entry_count: u8, payload: u32, data: u32) -> Record {
         },
         tag_offset: 0,
     };
-    let range = Range {
-        start: 0,
-        length: data,
-    };
-    let mut all = record;
-    all.extension_present_flag = true;
-    all.entry_count = entry_count as u32;
-    all.entries = [entry; MAX_ENTRIES];
-    all.data = range;
-    all
+    Record {
+        extension_present_flag: true,
+        entry_count: u32::from(entry_count),
+        entries: [entry; MAX_ENTRIES],
+        data: Range {
+            start: 0,
+            length: data,
+        },
+        ..record
+    }
 }
 
 fn show_changed(s: &[u8]) {
     if s.len() < 9 {
         return;
     }
-    let payload = number(s[1], s[2], s[3], s[4]);
-    let data = number(s[5], s[6], s[7], s[8]);
+    let payload = u32::from_be_bytes(bytes_at(s, 1));
+    let data = u32::from_be_bytes(bytes_at(s, 5));
     let reading = bpg_reader::read(&s[9..]);
     let record = changed(reading.record, s[0], payload, data);
     let source = zeros();
     show_answer(bpg_writer::size(record, &source));
-    io::write_all(1, b"\n");
+    text::show(b"\n");
 }
 
-// The first bytes are the case. Any other line, such as an empty one, prints nothing.
-fn show_case(bytes: &[u8], count: usize) {
-    if count == 0 || bytes.len() < count {
-        return;
-    }
-    let s = &bytes[0..count];
-    match s[0] {
-        0 => show_sizes(&s[1..]),
-        1 => show_changed(&s[1..]),
-        _ => {}
-    }
-}
+struct Program;
 
-// Takes one more character; a line that ends is a case. `bytes` holds a line.
-fn take(bytes: &mut [u8], line: HexLine, c: u8) -> HexLine {
-    if c == b'\n' {
-        show_case(bytes, line.count);
-        return bpg_hex::none();
-    }
-    bpg_hex::extend(bytes, line, c)
-}
-
-fn show_lines(s: &[u8], bytes: &mut [u8]) {
-    let mut line = bpg_hex::none();
-    for c in s {
-        line = take(bytes, line, *c);
+impl ShowCase for Program {
+    fn show(&self, s: &[u8]) {
+        if s.is_empty() {
+            return;
+        }
+        match s[0] {
+            0 => show_sizes(&s[1..]),
+            1 => show_changed(&s[1..]),
+            _ => {}
+        }
     }
 }
 
 // The input's first 65,536 bytes: more than the cases take.
 fn main() {
-    let mut text = io::large_buffer();
-    let n = io::read_full(0, &mut text);
-    let mut line = io::buffer();
-    show_lines(&text[..n], &mut line);
+    let mut space = io::buffer();
+    for_each_case(1, &mut space, &Program);
 }

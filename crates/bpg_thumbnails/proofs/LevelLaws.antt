@@ -6,14 +6,12 @@ use mathlib.Core.Logic.{◌↔◌, ◌≢◌}
 use Prim.Native.Nat.{ℕ, zero, suc, ◌+◌, ◌-◌, ◌≤◌, ◌<◌}
 use native.Mathlib.Omega.{arith}
 use lib.ListN.{length, take, drop, get_or, length-append, length-map, length-take, length-drop, drop_of_length-le}
-use lib.Seq.{get_or-take}
 use lib.Dec.{eqb}
 use borrow.Author.Tests.{eq-eqb, ne_eqb}
 use Rattle.bpg_codec.specs.Select.{select}
-use Rattle.bpg_codec.specs.Outcome.{Outcome, ok, ◌>>=◌, guard}
-use Rattle.bpg_codec.proofs.Answers.{refused-error, accepted-value}
+use Rattle.bpg_codec.specs.Outcome.{Outcome, ok, error, ◌>>=◌, guard}
 use Rattle.bpg_codec.proofs.Lists.{drop-next}
-use Rattle.bpg_codec.proofs.Refusals.{Refuses, refuses-ok, refuses-error, refuses-guard, refuses-select}
+use Rattle.bpg_codec.proofs.Refusals.{Refuses, refuses-error, refuses-guard}
 use Rattle.bpg_codec.proofs.Select.{select-true, select-false}
 use Rattle.bpg_format.specs.Limits.{max_entries}
 use Rattle.bpg_format.specs.declared.record.Entry.{Entry}
@@ -27,7 +25,7 @@ use Rattle.bpg_format.proofs.Requirements.{reading, ranges}
 use Rattle.bpg_thumbnails.specs.declared.answer.Checked.{Checked}
 use Rattle.bpg_thumbnails.specs.declared.levels.Size.{Size}
 use Rattle.bpg_thumbnails.specs.Thumbnails.{levels_below, is_accepted, size_of, is_smaller, with_tag4, thumbnails, each, check_thumbnail, check_entries, check_file}
-use Rattle.bpg_thumbnails.specs.Calls.{passed, refused, checked_of, check_thumbnails}
+use Rattle.bpg_thumbnails.specs.Calls.{refused, checked_of, check_thumbnails}
 use Rattle.bpg_thumbnails.specs.Answers.{check_entry, FileAt, EntryAt}
 use Rattle.bpg_thumbnails.proofs.EachLaws.{each-refuses, tagged-full}
 
@@ -62,41 +60,37 @@ module _ (left : ℕ) (f : List ℕ) (start : ℕ) (e : Entry) where
   part-is : part ≡ bytes_in f e.payload
   part-is = let n : e.payload.start + e.payload.length - e.payload.start ≡ e.payload.length = omega arith in rw n
 
-  module _ (x : Checked) where
-    abbrev Answers : Type 0
-    Answers = x ≡ checked_of (check_entry left f start e)
+  pub entry_other : e.tag ≢ 4 → ok tt ≡ check_entry left f start e
+  unfolding check_entry
+  entry_other n = sym (select-false _ _ (ne_eqb e.tag 4 n))
 
-    pub entry_other : x ≡ passed → e.tag ≢ 4 → Answers
+  module _ (t : e.tag ≡ 4) where
+    entry-is : check_entry left f start e ≡ check_thumbnail left f start e
     unfolding check_entry
-    entry_other a n = a ∙ ap checked_of (sym (select-false _ _ (ne_eqb e.tag 4 n)))
+    entry-is = select-true _ _ (eq-eqb e.tag 4 t)
 
-    module _ (t : e.tag ≡ 4) where
-      entry-is : check_entry left f start e ≡ check_thumbnail left f start e
-      unfolding check_entry
-      entry-is = select-true _ _ (eq-eqb e.tag 4 t)
+    pub entry-deep : left ≡ 0 → error 27 offset ≡ check_entry left f start e
+    unfolding check_thumbnail
+    entry-deep z = rw (entry-is, z)
 
-      pub entry-deep : x ≡ refused 27 offset → left ≡ 0 → Answers
+    module _ (below : ℕ) (n : left ≡ below + 1) (r : Reading) (read : r ≡ read_file part) where
+      entered : check_entry left f start e
+          ≡ (guard (is_accepted part) 28 offset >>= λ _. guard (is_smaller (size_of (record_in part)) (size_of (record_in f))) 29 offset >>= λ _. check_entries below part offset)
       unfolding check_thumbnail
-      entry-deep a z = a ∙ rw (entry-is, z)
+      entered = let s : left ≡ suc below = omega arith in entry-is ∙ ap (λ (k : ℕ). check_thumbnail k f start e) s ∙ rw part-is
 
-      module _ (n : left ≢ 0) (r : Reading) (read : r ≡ read_file part) where
-        entered : check_entry left f start e
-            ≡ (guard (is_accepted part) 28 offset >>= λ _. guard (is_smaller (size_of (record_in part)) (size_of (record_in f))) 29 offset >>= λ _. check_entries (left - 1) part offset)
-        unfolding check_thumbnail
-        entered = let s : left ≡ suc (left - 1) = omega arith in entry-is ∙ ap (λ (k : ℕ). check_thumbnail k f start e) s ∙ rw part-is
+      pub entry-unread : r.status ≢ 0 → error 28 offset ≡ check_entry left f start e
+      entry-unread h = rw (entered, ← read, ne_eqb r.status 0 h)
 
-        pub entry-unread : x ≡ refused 28 offset → r.status ≢ 0 → Answers
-        entry-unread a h = a ∙ rw (entered, ← read, ne_eqb r.status 0 h)
+      module _ (z : r.status ≡ 0) (parent : Size) (p : parent ≡ size_of (record_in f)) (b : Bool) (c : b ≡ is_smaller (size_of r.«record») parent) where
+        smaller-is : is_smaller (size_of (record_in part)) (size_of (record_in f)) ≡ b
+        smaller-is = sym (c ∙ rw (p, read))
 
-        module _ (z : r.status ≡ 0) (parent : Size) (p : parent ≡ size_of (record_in f)) (b : Bool) (c : b ≡ is_smaller (size_of r.«record») parent) where
-          smaller-is : is_smaller (size_of (record_in part)) (size_of (record_in f)) ≡ b
-          smaller-is = sym (c ∙ rw (p, read))
+        pub entry-large : b ≡ false → error 29 offset ≡ check_entry left f start e
+        entry-large h = rw (entered, smaller-is, h, ← read, eq-eqb r.status 0 z)
 
-          pub entry-large : x ≡ refused 29 offset → b ≡ false → Answers
-          entry-large a h = a ∙ rw (entered, smaller-is, h, ← read, eq-eqb r.status 0 z)
-
-          pub entry-entered : x ≡ checked_of (check_entries (left - 1) part offset) → b ≡ true → Answers
-          entry-entered a h = a ∙ rw (entered, smaller-is, h, ← read, eq-eqb r.status 0 z)
+        pub entry-entered : b ≡ true → check_entries below part offset ≡ check_entry left f start e
+        entry-entered h = rw (entered, smaller-is, h, ← read, eq-eqb r.status 0 z)
 
 -- ---- the entries of a file, one after the other
 
@@ -114,20 +108,12 @@ module _ (left : ℕ) (f : List ℕ) (start : ℕ) where
       by true = refl
       by false = refl
 
-  module _ (e : Entry) (es : List Entry) (x : Checked) (c : x ≡ checked_of (check_entry left f start e)) where
-    rest-stops : x.status ≢ 0 → x ≡ checked_of (rest (e ∷ es))
-    rest-stops n =
-        refused-error checked_of (λ r. r.status) (λ _. refl) (λ _ _. refl) (check_entry left f start e) x c n λ s o w. rw (c, rest-next e es, w)
+  module _ (e : Entry) (es : List Entry) where
+    rest-stops : (s o : ℕ) → error s o ≡ check_entry left f start e → error s o ≡ rest (e ∷ es)
+    rest-stops s o c = rw (rest-next e es, ← c)
 
-    not-zero : Refuses (λ s o. s ≢ 0) (check_entry left f start e)
-    unfolding check_entry
-    not-zero =
-        refuses-select (λ s o. s ≢ 0) (eqb e.tag 4) (check_thumbnail left f start e) (ok tt)
-        (λ s o w z. let t = thumbnail-refuses left f start e s o w in omega arith) (refuses-ok (λ s o. s ≢ 0) tt)
-
-    rest-goes-on : x.status ≡ 0 → rest (e ∷ es) ≡ rest es
-    rest-goes-on z =
-        accepted-value checked_of (λ r. r.status) (λ _. refl) (λ _ _. refl) (check_entry left f start e) x c z not-zero λ u w. rw (rest-next e es, w)
+    rest-goes-on : (u : Unit {0}) → ok u ≡ check_entry left f start e → rest (e ∷ es) ≡ rest es
+    rest-goes-on u c = rw (rest-next e es, ← c)
 
 -- ---- an accepted file and its record
 
@@ -150,41 +136,38 @@ module _ {f : List ℕ} {r : Record} {start : ℕ} (p : FileAt f r start) where
   pub rest_all : (left : ℕ) → rest left f start (used_entries r) ≡ check_entries left f start
   rest_all left = rw p.record_is
 
-  module _ (k : ℕ) (h : k < r.entry_count) where
+  module _ (k : ℕ) (h : k < length (used_entries r)) where
     abbrev entry : Entry
-    entry = get_or r.entries k zero_entry
-
-    used-entry : get_or (used_entries r) k zero_entry ≡ entry
-    used-entry = get_or-take r.entry_count r.entries k zero_entry h
+    entry = get_or (used_entries r) k zero_entry
 
     used-next : drop k (used_entries r) ≡ entry ∷ drop (k + 1) (used_entries r)
-    used-next = drop-next (used_entries r) k zero_entry (omega (arith, used-length)) ∙ ap (λ (e : Entry). e ∷ drop (k + 1) (used_entries r)) used-entry
+    used-next = drop-next (used_entries r) k zero_entry h
 
     payload-inside : range_end entry.payload ≤ length f
     unfolding entry_of
     payload-inside =
         let a = ranges f p.accepted in
-        let n = subst (λ (x : Record). k < x.entry_count) p.record_is h in
-        let e : entry ≡ entry_of f k = sym used-entry ∙ ap (λ (x : Record). get_or (used_entries x) k zero_entry) p.record_is in
+        let j : k < r.entry_count = omega (arith, used-length) in
+        let n = subst (λ (x : Record). k < x.entry_count) p.record_is j in
+        let e : entry ≡ entry_of f k = ap (λ (x : Record). get_or (used_entries x) k zero_entry) p.record_is in
         rw (e, (a.payloads k n).0) (a.in_order.within k (omega (arith, a.last.0)))
 
     pub entry_at : EntryAt f entry (size_of r) start
     entry_at = record { size_is = ap size_of p.record_is; payload = payload-inside; inside = p.inside }
 
-    module _ (left : ℕ) (inv : rest left f start (drop k (used_entries r)) ≡ check_entries left f start)
-        (x : Checked) (c : x ≡ checked_of (check_entry left f start entry)) where
-      pub file-stops : x.status ≢ 0 → x ≡ checked_of (check_entries left f start)
-      file-stops n = rest-stops left f start entry (drop (k + 1) (used_entries r)) x c n ∙ ap checked_of (ap (rest left f start) (sym used-next) ∙ inv)
+    module _ (left : ℕ) (inv : rest left f start (drop k (used_entries r)) ≡ check_entries left f start) where
+      pub file-stops : (s o : ℕ) → error s o ≡ check_entry left f start entry → error s o ≡ check_entries left f start
+      file-stops s o c = rest-stops left f start entry (drop (k + 1) (used_entries r)) s o c ∙ ap (rest left f start) (sym used-next) ∙ inv
 
-      pub file-goes-on : x.status ≡ 0 → rest left f start (drop (k + 1) (used_entries r)) ≡ check_entries left f start
-      file-goes-on z = sym (rest-goes-on left f start entry (drop (k + 1) (used_entries r)) x c z) ∙ ap (rest left f start) (sym used-next) ∙ inv
+      pub file-goes-on : (u : Unit {0}) → ok u ≡ check_entry left f start entry → rest left f start (drop (k + 1) (used_entries r)) ≡ check_entries left f start
+      file-goes-on u c = sym (rest-goes-on left f start entry (drop (k + 1) (used_entries r)) u c) ∙ ap (rest left f start) (sym used-next) ∙ inv
 
-pub file-ends : (left : ℕ) (f : List ℕ) (start : ℕ) (es : List Entry) (n k : ℕ) → rest left f start (drop k (take n es)) ≡ check_entries left f start
-    → n ≤ k → (x : Checked) → x ≡ passed → x ≡ checked_of (check_entries left f start)
+pub file-ends : (left : ℕ) (f : List ℕ) (start : ℕ) (es : List Entry) (k : ℕ) → rest left f start (drop k es) ≡ check_entries left f start
+    → length es ≤ k → ok tt ≡ check_entries left f start
 unfolding with_tag4 each
-file-ends left f start es n k inv h x a =
-    let none = drop_of_length-le (take n es) {i = k} (omega (arith, length-take n es)) in
-    a ∙ ap checked_of (ap (rest left f start) (sym none) ∙ inv)
+file-ends left f start es k inv h =
+    let none = drop_of_length-le es {i = k} h in
+    ap (rest left f start) (sym none) ∙ inv
 
 -- a thumbnail that was read
 pub thumbnail-at : {f : List ℕ} {e : Entry} {parent : Size} {start : ℕ} → EntryAt f e parent start
@@ -199,16 +182,11 @@ thumbnail-at {f} {e} {parent} {start} p r read exactly z =
 
 -- ---- the outer file
 
-module _ (f : List ℕ) (r : Reading) (read : r ≡ read_file f) (x : Checked) where
-  pub outer-refused : x ≡ refused r.status r.offset → r.status ≢ 0 → x ≡ check_thumbnails f
+module _ (f : List ℕ) (r : Reading) (read : r ≡ read_file f) where
+  pub outer-refused : r.status ≢ 0 → refused r.status r.offset ≡ check_thumbnails f
   unfolding check_thumbnails check_file
-  outer-refused a n = a ∙ rw (← read, ne_eqb r.status 0 n)
+  outer-refused n = rw (← read, ne_eqb r.status 0 n)
 
-  pub outer-entered : x ≡ checked_of (check_entries levels_below f 0) → r.status ≡ 0 → x ≡ check_thumbnails f
+  pub outer-entered : (x : Checked) → x ≡ checked_of (check_entries levels_below f 0) → r.status ≡ 0 → x ≡ check_thumbnails f
   unfolding check_thumbnails check_file
-  outer-entered a z = a ∙ rw (eq-eqb (read_file f).status 0 (ap (λ (y : Reading). y.status) (sym read) ∙ z))
-
-pub outer-at : (f : List ℕ) (r : Reading) → r ≡ read_file f → ((r.status ≡ 0) ↔ Accepted f) → r.status ≡ 0 → FileAt f r.«record» 0
-outer-at f r read exactly z =
-    let a = exactly.0 z in
-    record { accepted = a; record_is = ap (λ (x : Reading). x.«record») read; inside = omega (arith, ap length a.2, a.1.size) }
+  outer-entered x a z = a ∙ rw (eq-eqb (read_file f).status 0 (ap (λ (y : Reading). y.status) (sym read) ∙ z))

@@ -2,7 +2,7 @@
 ghost use Rattle.std.specs.Prelude.{◌≡◌};
 ghost use Rattle.bpg_thumbnails.specs.Calls.{check_thumbnails};
 
-use crate::answer::{Checked, refused};
+use crate::answer::Checked;
 use crate::levels::{LEVELS_BELOW, check_file};
 use bpg_reader::read;
 
@@ -13,8 +13,10 @@ pub fn check_thumbnails(file: &[u8]) -> Checked
 {
     let reading = read(file);
     if reading.status != 0 {
-        return refused(reading.status, reading.offset);
+        return Checked {
+            status: reading.status,
+            offset: reading.offset,
+        };
     }
-    let record = reading.record;
-    check_file(file, record, 0, LEVELS_BELOW)
+    Checked::of(check_file(file, &reading.record, 0, LEVELS_BELOW))
 }

@@ -45,3 +45,7 @@ ue7-advances n =
 
 pub ue7-limit : (n i p : ℕ) (l : List ℕ) (x : Decoded ℕ ℕ) → (ue7 n).decode i p l ≡ ok x → x.value < 2 ^ n
 ue7-limit n i p l x e = (reads n p l x e).3
+
+-- a number has at least one byte
+pub ue7-longer : (n i p : ℕ) (l : List ℕ) (x : Decoded ℕ ℕ) → (ue7 n).decode i p l ≡ ok x → p < x.next
+ue7-longer n i p l x e = (reads n p l x e).0

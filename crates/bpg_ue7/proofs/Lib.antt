@@ -3,4 +3,5 @@ pub mod Ue7Laws
 pub mod Refusals
 pub mod Advances
 pub mod ReadAt
+pub mod Reading
 pub mod Places

@@ -1,4 +1,3 @@
--- The numbers of a BPG file that are coded in bytes (document 01, "Numbers in the file") as a codec, and what the calls' answers say.
+-- The numbers of a BPG file that are coded in bytes (document 01, "Numbers in the file") as a codec, and where their refusals point.
 pub mod Ue7
-pub mod Answers
 pub mod Places

@@ -6,7 +6,7 @@ ghost use Rattle.bpg_sample_check.specs.Judgement.{judged};
 ghost use Rattle.bpg_sample_check.specs.Answers.{answer_of, buffer_after};
 
 use crate::planes::convert_planes;
-use bpg_sample_check::{Converted, judge_4, max_sample};
+use bpg_sample_check::{Converted, judge, max_sample};
 
 // R', G' and B' from R, G and B that were multiplied by A; or a refusal, and the buffers as they were.
 pub fn unpremultiply(
@@ -24,19 +24,10 @@ pub fn unpremultiply(
     ensures green_after { green.new ≡ buffer_after result.status (zip_with (unpremultiplied (max_sample depth)) g.now a.now) green.old }
     ensures blue_after { blue.new ≡ buffer_after result.status (zip_with (unpremultiplied (max_sample depth)) b.now a.now) blue.old }
 {
-    let lengths = [
-        g.len(),
-        b.len(),
-        a.len(),
-        red.len(),
-        green.len(),
-        blue.len(),
-    ];
-    let answer = judge_4(r, g, b, a, &lengths, depth);
-    if answer.status != 0 {
-        return answer;
-    }
-    let m = max_sample(depth);
-    convert_planes(r, g, b, a, red, green, blue, m);
-    answer
+    let count = match judge(&[r, g, b, a], &[red, green, blue], depth) {
+        Ok(count) => count,
+        Err(reason) => return Converted::refused(reason),
+    };
+    convert_planes(r, g, b, a, red, green, blue, max_sample(depth));
+    Converted::of(count)
 }

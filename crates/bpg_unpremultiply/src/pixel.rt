@@ -3,14 +3,11 @@ ghost use Rattle.std.specs.Prelude.{◌≡◌, ◌≤◌, ◌/◌};
 ghost use Rattle.bpg_sample_rules.specs.Rules.{unpremultiplied};
 ghost use Rattle.bpg_unpremultiply.specs.Reciprocal.{reciprocal_of};
 
-use bpg_sample_check::{larger, smaller};
-
 // 2^44 / A, and one more; that of 1 for an A of 0, which is not used.
 pub(crate) fn reciprocal(a: u16) -> u64
     ensures { result ≡ reciprocal_of a }
 {
-    let divisor = larger(1, a);
-    17_592_186_044_416 / (divisor as u64) + 1
+    17_592_186_044_416 / u64::from(a.max(1)) + 1
 }
 
 // What is added before a division by A that rounds down, so that it goes to the nearest, and halves up.
@@ -25,12 +22,9 @@ pub(crate) fn unpremultiply_sample(colour: u16, a: u16, m: u16, reciprocal: u64)
     requires { (m ≤ 16383) × (a ≤ m) × (reciprocal ≡ reciprocal_of a) }
     ensures { result ≡ unpremultiplied m colour a }
 {
-    let least = smaller(colour, a);
+    let least = colour.min(a);
     let half = half_of(a);
-    let n = (least as u32) * (m as u32) + half as u32;
-    let q = ((n as u64) * reciprocal) >> 44;
-    if a == 0 {
-        return m;
-    }
-    q as u16
+    let n = u32::from(least) * u32::from(m) + u32::from(half);
+    let q = (u64::from(n) * reciprocal) >> 44;
+    if a == 0 { m } else { q as u16 }
 }

@@ -22,16 +22,12 @@ pub(crate) fn convert_planes(
     ensures green_after { green.new ≡ zip_with (unpremultiplied m) g.now a.now }
     ensures blue_after { blue.new ≡ zip_with (unpremultiplied m) b.now a.now }
 {
-    let mut i: usize = 0;
-    while i < a.len() {
+    // By index, since of a slice that `iter_mut().zip(..)` has written nothing is known.
+    for i in 0..a.len() {
         let alpha = a[i];
         let v = reciprocal(alpha);
-        let x = r[i];
-        let y = g[i];
-        let z = b[i];
-        red[i] = unpremultiply_sample(x, alpha, m, v);
-        green[i] = unpremultiply_sample(y, alpha, m, v);
-        blue[i] = unpremultiply_sample(z, alpha, m, v);
-        i += 1;
+        red[i] = unpremultiply_sample(r[i], alpha, m, v);
+        green[i] = unpremultiply_sample(g[i], alpha, m, v);
+        blue[i] = unpremultiply_sample(b[i], alpha, m, v);
     }
 }

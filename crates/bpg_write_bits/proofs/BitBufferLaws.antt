@@ -2,7 +2,7 @@
 --
 use mathlib.Core.Path.{◌≡◌, refl, sym, ap, ap₂, ◌∙◌}
 use mathlib.Core.Bool.{Bool}
-use mathlib.Core.List.{List, ◌++◌}
+use mathlib.Core.List.{List, [], ◌∷◌, ◌++◌}
 use Prim.Native.Nat.{ℕ, zero, suc, min, ◌+◌, ◌-◌, ◌*◌, ◌/◌, ◌%◌, ◌^◌, ◌≤◌, ◌<◌}
 use native.Mathlib.Nat.{zero-add, zero-mul, zero-mod, mod-eq_of_lt, mod-lt, mul-mod_left, add-zero}
 use native.Mathlib.Omega.{arith}
@@ -10,6 +10,7 @@ use lib.Arith.{digits_lt}
 use lib.Pow.{pow_pos, pow_mono, pow-add, mod-pow-add, shl-shr}
 use lib.ListN.{length, take, length-append, length-replicate}
 use borrow.Author.Tests.{le-leb, lt-leb}
+use Rattle.std.specs.Int.{w64, to_be_bytes}
 use Rattle.bpg_codec.specs.Lawful.{All, Byte}
 use Rattle.bpg_codec.specs.Bits.{number, number_from, bits, zeros, unpack, bytes_for, padded}
 use Rattle.bpg_codec.proofs.Select.{select-true, select-false}
@@ -18,7 +19,7 @@ use Rattle.bpg_codec.proofs.Tokens.{all_take}
 use Rattle.bpg_codec.proofs.Bits.{number_from-bits, number_from-append, number_small, bits-number, bits-append, bits-mod, unpack-take}
 use Rattle.bpg_codec.proofs.Packed.{padded-unique, all_zero-zeros}
 use Rattle.bpg_write_bits.specs.declared.BitBuffer.{BitBuffer}
-use Rattle.bpg_write_bits.specs.BitBuffer.{empty, overfull, appended, gathered, big_endian, buffer_bytes}
+use Rattle.bpg_write_bits.specs.BitBuffer.{empty, overfull, appended, gathered, buffer_bytes}
 
 module _ (b : BitBuffer) (l : List Bool) where
   pub append-fits : b.len.0 + length l ≤ 64
@@ -78,6 +79,16 @@ pub shifted_fits : (v j k low : ℕ) → low < 2 ^ k → v % 2 ^ j * 2 ^ k + low
 shifted_fits v j k low h = rw pow-add (digits_lt (mod-lt v (pow_pos j)) h)
 
 -- ---- the bytes of a buffer
+
+-- the n low bytes of v, the highest first
+unfoldable pub big_endian : (n v : ℕ) → List ℕ
+big_endian zero v = []
+big_endian (suc n) v = v / 2 ^ (8 * n) % 256 ∷ big_endian n v
+
+-- std's word for eight
+pub be-bytes : (v : ℕ) → to_be_bytes w64 v ≡ big_endian 8 v
+unfolding big_endian
+be-bytes v = let e : v / 1 ≡ v = omega arith in rw e refl
 
 pub unpack-big_endian : (n v : ℕ) → unpack (big_endian n v) ≡ bits (8 * n) v
 unfolding big_endian unpack bits

@@ -1,5 +1,5 @@
 -- The bit buffer: up to 64 bits as a number, and how many they are.
-use Rattle.std.specs.Prelude.{Bool, List, [], ◌∷◌, ℕ, zero, suc, min, ◌+◌, ◌-◌, ◌*◌, ◌/◌, ◌%◌, ◌^◌, leb, length}
+use Rattle.std.specs.Prelude.{Bool, List, ℕ, min, ◌+◌, ◌-◌, ◌*◌, ◌%◌, ◌^◌, leb, length}
 use Rattle.bpg_codec.specs.Select.{select}
 use Rattle.bpg_codec.specs.Bits.{number, bits, padded}
 use Rattle.bpg_write_bits.specs.declared.BitBuffer.{BitBuffer}
@@ -21,11 +21,6 @@ appended b l =
 -- bits in a buffer of their own
 abbrev pub gathered : List Bool → BitBuffer
 gathered l = appended empty l
-
--- the n low bytes of v, the highest first
-unfoldable pub big_endian : (n v : ℕ) → List ℕ
-big_endian zero v = []
-big_endian (suc n) v = v / 2 ^ (8 * n) % 256 ∷ big_endian n v
 
 -- the bytes that are written of a buffer: its bits, then zero bits up to the byte
 abbrev pub buffer_bytes : BitBuffer → List ℕ

@@ -1,7 +1,4 @@
 -- Laws of judging a record.
-pub mod StatusLaws
-pub mod HeaderLaws
 pub mod EntryLaws
 pub mod ConsistentLaws
 pub mod ContentLaws
-pub mod Judgement

@@ -1,28 +1,14 @@
--- What judging a record answers (document 01, "Refusal numbers", writer): 11, 18, 19, then the rules in file order.
-use Rattle.std.specs.Prelude.{Bool, not, ◌&&◌, ◌||◌, List, ℕ, leb, get_or}
+-- The parts of judging a record that functions of their own judge.
+use Rattle.std.specs.Prelude.{Bool, not, ◌&&◌, ◌||◌, ℕ, leb, get_or}
 use Rattle.bpg_codec.specs.Select.{select}
-use Rattle.bpg_codec.specs.Outcome.{Outcome, ok, error, ◌>>=◌, guard}
+use Rattle.bpg_codec.specs.Outcome.{Outcome, ok, ◌>>=◌, guard}
 use Rattle.bpg_ue7.specs.Ue7.{not_zero}
 use Rattle.bpg_format.specs.declared.record.Record.{Record}
 use Rattle.bpg_format.specs.Zero.{zero_header}
 use Rattle.bpg_format.specs.Content.{Extension, AnimationControl, Content, has_alpha, bit_depth}
 use Rattle.bpg_format.specs.Rules.{is_animation, has_animation}
 use Rattle.bpg_format.specs.Tests.{color_space_allowed}
-use Rattle.bpg_format.specs.Write.{check_animation, check_header, check_record}
-use Rattle.bpg_read_animation.specs.declared.animation.Animation.{Animation}
-
--- 0, or the error's status
-abbrev pub status_of : {A : Type 0} → Outcome A → ℕ
-status_of (ok a) = 0
-status_of (error s o) = s
-
-abbrev pub check_status : Record → List ℕ → ℕ
-check_status r source = status_of (check_record r source)
-
--- ---- the parts that functions of their own judge
-
-abbrev pub animation_numbers : Animation → AnimationControl
-animation_numbers a = record { count = a.loop_count; period_num = a.frame_period_num; period_den = a.frame_period_den }
+use Rattle.bpg_format.specs.Write.{check_animation, check_header}
 
 -- what `check_entries` does with one entry
 unfoldable pub check_entry : AnimationControl → (seen : Bool) → Extension → Outcome (Unit {0})

@@ -11,8 +11,8 @@ use bpg_write_rules::absent;
 
 // No entries without the extension flag; no loop numbers without an entry with tag 5; no alpha header without alpha; in each header, what a
 // flag leaves out is zero.
-pub(crate) fn all(record: Record) -> bool
-    ensures { (source : List ℕ) → result ≡ is_consistent (content_of «record» source) }
+pub(crate) fn all(record: &Record) -> bool
+    ensures { (source : List ℕ) → result ≡ is_consistent (content_of «record».now source) }
 {
     let alpha = record.headers[0];
     let color = record.headers[1];

@@ -1,26 +1,28 @@
 // The writer's refusals but for those of size: 11, 18, 19, then the rules in file order.
 ghost use Rattle.std.specs.Prelude.{◌≡◌};
-ghost use Rattle.bpg_write_check.specs.Check.{check_status};
+ghost use Rattle.bpg_refusal.specs.Outcomes.{outcome_at_zero};
+ghost use Rattle.bpg_format.specs.Write.{check_record};
 
 use crate::{consistent, content};
 use bpg_format::{MAX_ENTRIES, Record};
 use bpg_record_entries::{ranges, used};
+use bpg_refusal::Reason;
 
-// 0 if the record may be written, else its refusal number.
-pub fn record(record: Record, source: &[u8]) -> u8
-    ensures { result ≡ check_status «record» source.now }
+// Whether the record, whose ranges are in `source`, may be written.
+pub fn record(record: &Record, source: &[u8]) -> Result<(), Reason>
+    ensures { outcome_at_zero result ≡ check_record «record».now source.now }
 {
     if MAX_ENTRIES < record.entry_count as usize {
-        return 11;
+        return Err(Reason::TooManyEntries);
     }
     if !ranges::all_in(record, source) {
-        return 18;
+        return Err(Reason::RangeOutside);
     }
     if !used::unused_zero(record) {
-        return 19;
+        return Err(Reason::Inconsistent);
     }
     if !consistent::all(record) {
-        return 19;
+        return Err(Reason::Inconsistent);
     }
-    content::status(record, source)
+    content::check(record, source)
 }

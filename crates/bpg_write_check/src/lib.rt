@@ -1,4 +1,4 @@
-// Judging a record before it is written: its refusal number, or 0.
+// Judging a record before it is written: whether it may be, or the reason why not.
 #![tactic(auto)]
 
 mod consistent;

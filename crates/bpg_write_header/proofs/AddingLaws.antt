@@ -2,6 +2,8 @@
 use mathlib.Core.Path.{◌≡◌, sym, ap, ◌∙◌}
 use mathlib.Core.Bool.{Bool, true, false}
 use mathlib.Core.List.{List, [], ◌++◌, append_assoc, append-nil}
+use Prim.Native.Nat.{ℕ}
+use Rattle.bpg_codec.specs.Bits.{bits}
 use Rattle.bpg_codec.specs.Select.{select}
 use Rattle.bpg_codec.proofs.Select.{select-true, select-false}
 use Rattle.bpg_write_bits.specs.declared.BitBuffer.{BitBuffer}
@@ -11,6 +13,10 @@ use Rattle.bpg_write_header.specs.Adding.{Added}
 
 pub added : {b r : BitBuffer} {l : List Bool} → r ≡ appended b l → Added b l r
 added {l = l} e = record { gathers = λ m h. e ∙ ap (λ (x : BitBuffer). appended x l) h ∙ gathered-append m l }
+
+-- the bits of a number that was converted first
+pub added-bits : {b r : BitBuffer} (n : ℕ) {v w : ℕ} → r ≡ appended b (bits n w) → w ≡ v → Added b (bits n v) r
+added-bits {b} {r} n e f = added (e ∙ ap (λ (k : ℕ). appended b (bits n k)) f)
 
 pub added_then : {b c d : BitBuffer} {l m : List Bool} → Added b l c → Added c m d → Added b (l ++ m) d
 added_then {l = l} {m = m} p q = record { gathers = λ k h. q.gathers (k ++ l) (p.gathers k h) ∙ ap gathered (append_assoc k l m) }

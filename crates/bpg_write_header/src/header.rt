@@ -4,7 +4,7 @@ ghost use Rattle.bpg_write_bits.specs.BitBuffer.{gathered};
 ghost use Rattle.bpg_format.specs.Rules.{HevcRules};
 ghost use Rattle.bpg_format.specs.Syntax.{header_bits};
 
-use crate::{fields, range_flags};
+use crate::fields;
 use bpg_format::Header;
 use bpg_write_bits::BitBuffer;
 
@@ -14,12 +14,12 @@ pub fn encode(header: Header) -> BitBuffer
     ensures value { result ≡ gathered (header_bits header) }
     ensures by_index { (depth : ℕ) → HevcRules depth header → length (header_bits header) ≤ 64 }
 {
-    let sizes = fields::add_sizes(bpg_write_bits::empty(), header);
-    let offset = fields::add_flag(sizes, header.sample_adaptive_offset_enabled_flag);
-    let pcm_flag = fields::add_flag(offset, header.pcm_enabled_flag);
-    let pcm = fields::add_pcm(pcm_flag, header);
-    let smoothing = fields::add_flag(pcm, header.strong_intra_smoothing_enabled_flag);
-    let sps_flag = fields::add_flag(smoothing, header.sps_extension_present_flag);
-    let sps = fields::add_sps(sps_flag, header);
-    range_flags::add(sps, header)
+    let sizes = fields::add_sizes(BitBuffer::new(), header)
+        .append_flag(header.sample_adaptive_offset_enabled_flag)
+        .append_flag(header.pcm_enabled_flag);
+    let pcm = fields::add_pcm(sizes, header)
+        .append_flag(header.strong_intra_smoothing_enabled_flag)
+        .append_flag(header.sps_extension_present_flag);
+    let sps = fields::add_sps(pcm, header);
+    fields::add_range_flags(sps, header)
 }

@@ -3,4 +3,3 @@
 
 mod fields;
 pub mod header;
-mod range_flags;

@@ -2,4 +2,5 @@
 pub mod LayoutLaws
 pub mod JudgedLaws
 pub mod SizeLaws
+pub mod EncodedLaws
 pub mod PlanLaws

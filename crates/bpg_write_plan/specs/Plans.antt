@@ -1,7 +1,9 @@
 -- What is known of a record's file before any of it is written.
-use Rattle.std.specs.Prelude.{◌≡◌, ◌≢◌, List, ℕ, ◌+◌, ◌≤◌, leb, length}
+use Rattle.std.specs.Prelude.{◌≡◌, List, ℕ, ◌+◌, ◌≤◌, leb, length, Result, Ok, Err}
 use Rattle.bpg_codec.specs.Outcome.{ok, error, ◌>>=◌, guard}
 use Rattle.bpg_codec.specs.Lawful.{All}
+use Rattle.bpg_refusal.specs.declared.Reason.{Reason}
+use Rattle.bpg_refusal.specs.Numbers.{reason_number}
 use Rattle.bpg_format.specs.Limits.{max_entries, max_file}
 use Rattle.bpg_format.specs.declared.record.Record.{Record}
 use Rattle.bpg_format.specs.Syntax.{file_of}
@@ -30,7 +32,7 @@ pub record Ready (r : Record) (source : List ℕ) (p : Plan) : Type 0 where
   pub parts-most : (p.layout.block ≤ max_file) × (p.layout.headers_and_data ≤ max_file)
   pub total-most : p.layout.total ≤ max_file
 
--- a status that is not 0 is the refusal, whatever the buffer
-pub record Planned (r : Record) (source : List ℕ) (p : Plan) : Type 0 where
-  pub refused : p.status ≢ 0 → (capacity : ℕ) → write_outcome capacity r source ≡ error p.status 0
-  pub ready : p.status ≡ 0 → Ready r source p
+-- a refusal is that of writing, whatever the buffer
+abbrev pub Planned : (r : Record) (source : List ℕ) → Result Plan Reason → Type 0
+Planned r source (Ok p) = Ready r source p
+Planned r source (Err e) = (capacity : ℕ) → write_outcome capacity r source ≡ error (reason_number e) 0

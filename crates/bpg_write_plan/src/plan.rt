@@ -1,81 +1,58 @@
-// What is known of a record's file before any of it is written: whether it is refused, the bits of its headers, and how long each part is.
-ghost use Rattle.std.specs.Prelude.{◌≡◌, ◌≤◌, ltb};
-ghost use Rattle.bpg_codec.specs.Select.{select};
-ghost use Rattle.bpg_format.specs.Limits.{max_file};
+// What is known of a record's file before any of it is written: the bits of its headers, and how long each part is.
+ghost use Rattle.std.specs.Prelude.{true, ◌||◌, ◌≤◌, get_or};
+ghost use Rattle.bpg_format.specs.Zero.{zero_header};
 ghost use Rattle.bpg_write_plan.specs.FileParts.{Encoded};
 ghost use Rattle.bpg_write_plan.specs.Plans.{Planned};
 
 use crate::layout;
 use crate::layout::Layout;
-use bpg_format::{Header, MAX_FILE, Record, has_alpha};
+use bpg_format::{MAX_FILE, Record, has_alpha};
+use bpg_refusal::Reason;
 use bpg_write_bits::BitBuffer;
 use bpg_write_check::judge;
 use bpg_write_header::header;
 
-// Status 0, or a refusal number; of a refused record the rest says nothing.
+// The bits of an absent header are none: whether it is there stands in the record, so that an Option would say it twice.
 #[derive(Clone, Copy)]
 pub struct Plan {
-    pub status: u8,
     pub layout: Layout,
     pub alpha: BitBuffer,
     pub color: BitBuffer,
 }
 
-// The bits of a header, if the file has it: an absent header is never looked at again.
-fn encoded(present: bool, header: Header) -> BitBuffer
+// The bits of the alpha (or W) header, if the file has it: an absent header is never looked at again.
+fn alpha_bits(record: &Record) -> BitBuffer
     ensures len_bound { result.len.0 ≤ 65 }
-    ensures encoded { Encoded present header result }
+    ensures encoded { Encoded («record».now.alpha1_flag || «record».now.alpha2_flag) (get_or «record».now.headers 0 zero_header) result }
 {
-    if !present {
-        return bpg_write_bits::empty();
+    if !has_alpha(record.alpha1_flag, record.alpha2_flag) {
+        return BitBuffer::new();
     }
-    header::encode(header)
+    header::encode(record.headers[0])
 }
 
-// 1 if a file of so many bytes is too long.
-fn length_status(total: u64) -> u8
-    ensures { result ≡ select (ltb max_file total) 1 0 }
+// The bits of the colour header.
+fn color_bits(record: &Record) -> BitBuffer
+    ensures len_bound { result.len.0 ≤ 65 }
+    ensures encoded { Encoded true (get_or «record».now.headers 1 zero_header) result }
 {
-    if MAX_FILE < total as usize { 1 } else { 0 }
-}
-
-// The plan of a record that the judging refused.
-fn refused(status: u8) -> Plan
-    ensures { result.status ≡ status }
-{
-    let layout = Layout {
-        block: 0,
-        headers_and_data: 0,
-        total: 0,
-    };
-    let alpha = bpg_write_bits::empty();
-    let color = bpg_write_bits::empty();
-    Plan {
-        status,
-        layout,
-        alpha,
-        color,
-    }
+    header::encode(record.headers[1])
 }
 
 // Judges a record, whose ranges are in `source`, encodes its headers and measures its file. No buffer is looked at, so 20 is not among the refusals.
-pub fn prepare(record: Record, source: &[u8]) -> Plan
-    ensures { Planned «record» source.now result }
+pub fn prepare(record: &Record, source: &[u8]) -> Result<Plan, Reason>
+    ensures { Planned «record».now source.now result }
 {
-    let status = judge::record(record, source);
-    if status != 0 {
-        return refused(status);
-    }
-    let alpha_header = record.headers[0];
-    let color_header = record.headers[1];
-    let plane = has_alpha(record.alpha1_flag, record.alpha2_flag);
-    let alpha = encoded(plane, alpha_header);
-    let color = encoded(true, color_header);
+    judge::record(record, source)?;
+    let alpha = alpha_bits(record);
+    let color = color_bits(record);
     let layout = layout::measure(record, alpha.len.0, color.len.0);
-    Plan {
-        status: length_status(layout.total),
+    if MAX_FILE < layout.total as usize {
+        return Err(Reason::FileTooLong);
+    }
+    Ok(Plan {
         layout,
         alpha,
         color,
-    }
+    })
 }

@@ -5,7 +5,7 @@ ghost use Rattle.bpg_format.specs.Write.{fields_coded};
 use bpg_format::Header;
 
 // 2^32 - 1: no ue(v) field holds it.
-const UNCODED: u32 = 4_294_967_295;
+const UNCODED: u32 = u32::MAX;
 
 // The block sizes, and with PCM the PCM sizes.
 pub fn fields_coded(h: Header) -> bool

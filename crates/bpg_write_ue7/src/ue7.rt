@@ -4,7 +4,6 @@ ghost use Rattle.bpg_codec.specs.Buffer.{written, written_end};
 ghost use Rattle.bpg_ue7.specs.Ue7.{ue7, ue7_bytes};
 
 use bpg_bytes::BytePos;
-use bpg_bytes::arithmetic::remaining;
 
 // How many bytes v takes, whatever its number of bits.
 pub fn size(v: u64) -> usize
@@ -12,8 +11,9 @@ pub fn size(v: u64) -> usize
 {
     let mut left = v / 128;
     let mut count: usize = 1;
+    // A `while`: what is counted are divisions, and no form of `for` or chain is plainer.
     while 0 < left {
-        left = left / 128;
+        left /= 128;
         count += 1;
     }
     count
@@ -25,18 +25,17 @@ pub fn write(out: &mut [u8], at: BytePos, v: u32) -> BytePos
     ensures result_value { result.0 ≡ written_end out.old at.0 ((ue7 32).encode v) }
 {
     let start = at.0;
-    let count = size(v as u64);
-    if remaining(out.len(), start) < count {
+    let count = size(u64::from(v));
+    if out.len().saturating_sub(start) < count {
         return at;
     }
     let past = start + count;
-    let mut next = past - 1;
+    let last = past - 1;
+    out[last] = (v % 128) as u8;
     let mut left = v / 128;
-    out[next] = (v % 128) as u8;
-    while 0 < left {
-        next -= 1;
-        out[next] = (128 + left % 128) as u8;
-        left = left / 128;
+    for i in (start..last).rev() {
+        out[i] = (128 + left % 128) as u8;
+        left /= 128;
     }
     BytePos(past)
 }

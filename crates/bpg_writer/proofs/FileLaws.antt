@@ -1,17 +1,14 @@
 -- What writing answers, by the plan and the buffer.
 use mathlib.Core.Path.{◌≡◌, refl, sym, ap, ◌∙◌}
 use mathlib.Core.Logic.{◌↔◌}
-use mathlib.Core.Bool.{Bool, true, false}
 use mathlib.Core.List.{List, ◌++◌}
 use Prim.Native.Nat.{ℕ, ◌+◌, ◌≤◌, ◌<◌}
 use native.Mathlib.Omega.{arith}
 use lib.ListN.{length, drop}
 use borrow.Author.Tests.{le-leb, lt-leb}
-use Rattle.bpg_codec.specs.Select.{select}
 use Rattle.bpg_codec.specs.Outcome.{Outcome, ok, error}
 use Rattle.bpg_codec.specs.Lawful.{All, Byte}
 use Rattle.bpg_codec.specs.Buffer.{written}
-use Rattle.bpg_codec.proofs.Select.{select-true, select-false}
 use Rattle.bpg_codec.proofs.Buffer.{stored}
 use Rattle.bpg_format.specs.Limits.{max_file}
 use Rattle.bpg_format.specs.declared.record.Record.{Record}
@@ -28,53 +25,53 @@ use Rattle.bpg_write_plan.specs.Plans.{Ready}
 abbrev success : ℕ → Written
 success n = record { status = 0; offset = 0; count = n }
 
-module _ (r : Record) (source out : List ℕ) where
+module _ (r : Record) (source : List ℕ) where
   abbrev file : List ℕ
   file = file_of (content_of r source)
 
-  -- the answer and the buffer, of sizing or of writing
-  abbrev pub Answers : (sizing : Bool) → Written → List ℕ → Type 0
-  Answers t w after = (w ≡ select t (write_size r source) (write_file r source out)) × (after ≡ select t out (write_buffer r source out))
+  -- a buffer that holds the file
+  outcome : (p : Plan) → Ready r source p → (capacity : ℕ) → p.layout.total ≤ capacity → write_outcome capacity r source ≡ ok file
+  outcome p k capacity h = k.only-small capacity ∙ rw (le-leb (length file) capacity (omega (arith, h, k.total-is)))
 
-  writes : (t : Bool) → t ≡ false → (w : Written) (after : List ℕ) → w ≡ write_file r source out → after ≡ write_buffer r source out → Answers t w after
-  writes t off w after a b = (a ∙ sym (select-false _ _ off), b ∙ sym (select-false _ _ off))
+  answer : (p : Plan) → Ready r source p → (capacity : ℕ) → p.layout.total ≤ capacity → success p.layout.total ≡ written_answer (write_outcome capacity r source)
+  answer p k capacity h = ap success k.total-is ∙ ap written_answer (sym (outcome p k capacity h))
 
-  -- what is refused whatever the buffer
-  pub refused : (t : Bool) (s : ℕ) → ((capacity : ℕ) → write_outcome capacity r source ≡ error s 0) → Answers t (refused_written s 0) out
-  unfolding select write_size write_file write_buffer
-  refused true s e = (ap written_answer (sym (e max_file)), refl)
-  refused false s e = (ap written_answer (sym (e (length out))), ap (λ (o : Outcome (List ℕ)). written_buffer o out) (sym (e (length out))))
+  -- ---- the size
 
-  module _ (p : Plan) (k : Ready r source p) (t : Bool) where
-    -- a buffer that holds the file
-    outcome : (capacity : ℕ) → p.layout.total ≤ capacity → write_outcome capacity r source ≡ ok file
-    outcome capacity h = k.only-small capacity ∙ rw (le-leb (length file) capacity (omega (arith, h, k.total-is)))
+  pub size-refused : (s : ℕ) → ((capacity : ℕ) → write_outcome capacity r source ≡ error s 0) → refused_written s 0 ≡ write_size r source
+  unfolding write_size
+  size-refused s e = ap written_answer (sym (e max_file))
 
-    answer : (capacity : ℕ) → p.layout.total ≤ capacity → success p.layout.total ≡ written_answer (write_outcome capacity r source)
-    answer capacity h = ap success k.total-is ∙ ap written_answer (sym (outcome capacity h))
+  pub size_is : (p : Plan) → Ready r source p → (w : Written) → w ≡ success p.layout.total → w ≡ write_size r source
+  unfolding write_size
+  size_is p k w e = e ∙ answer p k max_file k.total-most
 
-    pub sized : t ≡ true → Answers t (success p.layout.total) out
-    unfolding write_size
-    sized is = (answer max_file k.total-most ∙ sym (select-true _ _ is), sym (select-true _ _ is))
+-- ---- writing into a buffer
 
-    pub too_small : t ≡ false → length out < p.layout.total → Answers t (refused_written 20 0) out
-    unfolding write_file write_buffer
-    too_small off h =
-        let e : write_outcome (length out) r source ≡ error 20 0 = k.only-small (length out) ∙ rw (lt-leb (length file) (length out) (omega (arith, h, k.total-is))) in
-        writes t off _ _ (ap written_answer (sym e)) (ap (λ (o : Outcome (List ℕ)). written_buffer o out) (sym e))
+module _ (r : Record) (source out : List ℕ) (t : Typed r) (b : All Byte source) where
+  -- also that the status is 0 exactly when the record is writable
+  pub record Exact (w : Written) (after : List ℕ) : Type 0 where
+    pub value : w ≡ write_file r source out
+    pub out_after : after ≡ write_buffer r source out
+    pub variant : (w.status ≡ 0) ↔ Writable (length out) r source
 
-    pub file-written : t ≡ false → p.layout.total ≤ length out → (after : List ℕ) → after ≡ written out 0 file → Answers t (success p.layout.total) after
-    unfolding write_file write_buffer
-    file-written off h after e =
-        let n : 0 + length file ≡ length file = omega arith in
-        writes t off _ _ (answer (length out) h)
-        (e ∙ sym (stored out 0 file (omega (arith, h, k.total-is))).0 ∙ ap (λ (m : ℕ). file ++ drop m out) n
-        ∙ ap (λ (o : Outcome (List ℕ)). written_buffer o out) (sym (outcome (length out) h)))
+  exact : (v w : Written) (after : List ℕ) → v ≡ w → w ≡ write_file r source out → after ≡ write_buffer r source out → Exact v after
+  exact v w after f e a = let g = f ∙ e in record { value = g; out_after = a; variant = rw g (writing.exactly r source out t b) }
 
-  -- of writing, also that the status is 0 exactly when the record is writable
-  abbrev pub Exact : Written → List ℕ → Type 0
-  Exact w after = (w ≡ write_file r source out) × ((after ≡ write_buffer r source out) × ((w.status ≡ 0) ↔ Writable (length out) r source))
+  by_outcome : (o : Outcome (List ℕ)) → write_outcome (length out) r source ≡ o → (v : Written) (after : List ℕ) → v ≡ written_answer o → after ≡ written_buffer o out → Exact v after
+  unfolding write_file write_buffer
+  by_outcome o e v after f a = exact v (written_answer o) after f (ap written_answer (sym e)) (a ∙ ap (λ (o : Outcome (List ℕ)). written_buffer o out) (sym e))
 
-  pub exact : Typed r → All Byte source → (w : Written) (after : List ℕ) → Answers false w after → Exact w after
-  unfolding select
-  exact t b w after a = rw a.0 (refl, (a.1, writing.exactly r source out t b))
+  pub refused : (s : ℕ) → ((capacity : ℕ) → write_outcome capacity r source ≡ error s 0) → (v : Written) → v ≡ refused_written s 0 → Exact v out
+  refused s e v f = by_outcome (error s 0) (e (length out)) v out f refl
+
+  module _ (p : Plan) (k : Ready r source p) where
+    pub too_small : length out < p.layout.total → (v : Written) → v ≡ refused_written 20 0 → Exact v out
+    too_small h v f = by_outcome (error 20 0) (k.only-small (length out) ∙ rw (lt-leb (length (file r source)) (length out) (omega (arith, h, k.total-is)))) v out f refl
+
+    pub file-written : p.layout.total ≤ length out → (after : List ℕ) → after ≡ written out 0 (file r source) → (v : Written) → v ≡ success p.layout.total → Exact v after
+    file-written h after e v f =
+        let l = file r source in
+        let n : 0 + length l ≡ length l = omega arith in
+        by_outcome (ok l) (outcome r source p k (length out) h) v after (f ∙ ap success k.total-is)
+        (e ∙ sym (stored out 0 l (omega (arith, h, k.total-is))).0 ∙ ap (λ (m : ℕ). l ++ drop m out) n)

@@ -1,4 +1,5 @@
 -- Laws of writing.
 pub mod PutLaws
 pub mod PartLaws
+pub mod EmitLaws
 pub mod FileLaws

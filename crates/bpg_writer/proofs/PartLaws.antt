@@ -1,17 +1,17 @@
 -- The parts of a file as what is written one after another.
 use mathlib.Core.Path.{◌≡◌, refl, sym, ap, ◌∙◌}
 use mathlib.Core.List.{List, [], ◌∷◌, ◌++◌, map, append_assoc, append-nil}
-use Prim.Native.Nat.{ℕ, zero, suc, ◌+◌, ◌≤◌, ◌<◌}
+use Prim.Native.Nat.{ℕ, suc, ◌+◌, ◌≤◌, ◌<◌}
 use native.Mathlib.Omega.{arith}
-use lib.ListN.{length, take, drop, get_or, length-append}
+use lib.ListN.{length, take, drop, get_or, length-append, take-append-drop}
 use lib.Seq.{take-suc}
-use Rattle.bpg_codec.specs.Lawful.{All}
 use Rattle.bpg_ue7.specs.Ue7.{ue7_bytes}
 use Rattle.bpg_format.specs.declared.record.Entry.{Entry}
 use Rattle.bpg_format.specs.Zero.{zero_entry}
 use Rattle.bpg_format.specs.Syntax.{extension_bytes, block_bytes}
 use Rattle.bpg_format.specs.Records.{bytes_in, extension_of}
 use Rattle.bpg_write_plan.proofs.SizeLaws.{range_length}
+use Rattle.bpg_writer.proofs.PutLaws.{Put, put-end, put_same, put_then}
 
 pub entry-bytes : (source : List ℕ) (e : Entry) → e.payload.start + e.payload.length ≤ length source → (n : ℕ) → n ≡ e.payload.length
     → ue7_bytes e.tag ++ (ue7_bytes e.payload.length ++ take n (drop e.payload.start source)) ≡ extension_bytes (extension_of source e)
@@ -22,7 +22,7 @@ entry-bytes source e h n w =
 -- ---- the entries
 
 module _ (source : List ℕ) where
-  abbrev bytes_of : List Entry → List ℕ
+  abbrev pub bytes_of : List Entry → List ℕ
   bytes_of es = block_bytes (map (extension_of source) es)
 
   bytes-append : (es fs : List Entry) → bytes_of (es ++ fs) ≡ bytes_of es ++ bytes_of fs
@@ -36,20 +36,26 @@ module _ (source : List ℕ) where
       ap (λ (m : ℕ). bytes_of (take m es)) n ∙ ap bytes_of (take-suc es k zero_entry h) ∙ bytes-append (take k es) (e ∷ [])
       ∙ ap (λ (l : List ℕ). bytes_of (take k es) ++ l) (append-nil (extension_bytes (extension_of source e)))
 
-  pub bytes-grow : (es : List Entry) (k n : ℕ) → k ≤ n → length (bytes_of (take k es)) ≤ length (bytes_of (take n es))
-  bytes-grow [] zero zero h = omega arith
-  bytes-grow [] zero (suc n) h = omega arith
-  bytes-grow [] (suc k) zero h = omega arith
-  bytes-grow [] (suc k) (suc n) h = omega arith
-  bytes-grow (e ∷ es) zero n h = omega arith
-  bytes-grow (e ∷ es) (suc k) zero h = absurd (omega arith)
-  bytes-grow (e ∷ es) (suc k) (suc n) h =
-      let x = extension_bytes (extension_of source e) in
-      omega (arith, length-append x (bytes_of (take k es)), length-append x (bytes_of (take n es)), bytes-grow es k n (omega arith))
+-- ---- one entry after the other, into a buffer that holds them all
 
--- each entry in use
-pub nth-used : (P : Entry → Type 0) (es : List Entry) (n k : ℕ) → All P (take n es) → k < n → k < length es → P (get_or es k zero_entry)
-nth-used P [] n k a h l = absurd (omega arith)
-nth-used P (e ∷ es) zero k a h l = absurd (omega arith)
-nth-used P (e ∷ es) (suc n) zero a h l = a.0
-nth-used P (e ∷ es) (suc n) (suc k) a h l = nth-used P es n k a.1 (omega arith) (omega arith)
+module _ (source : List ℕ) (es : List Entry) (out : List ℕ) (at : ℕ) (fits : at + length (bytes_of source es) ≤ length out) (k : ℕ) where
+  abbrev first : ℕ → List ℕ
+  first n = bytes_of source (take n es)
+
+  abbrev one : List ℕ
+  one = extension_bytes (extension_of source (get_or es k zero_entry))
+
+  grown : (n : ℕ) → at + length (first n) ≤ length out
+  grown n =
+      let e = ap (λ (l : List Entry). length (bytes_of source l)) (sym (take-append-drop n es)) in
+      omega (arith, fits, e, ap length (bytes-append source (take n es) (drop n es)), length-append (first n) (bytes_of source (drop n es)))
+
+  module _ (more : k < length es) {after : List ℕ} {next : ℕ} (so_far : Put out at (first k) after next) where
+    next-fits : at + length (first k ++ one) ≤ length out
+    next-fits = omega (arith, grown (k + 1), ap length (bytes_next source es k more))
+
+    pub entry-fits : next + length one ≤ length after
+    entry-fits = let e = put-end out at (first k) (grown k) so_far in omega (arith, next-fits, e.0, e.1, length-append (first k) one)
+
+    pub entry-put : {after2 : List ℕ} {next2 : ℕ} → Put after next one after2 next2 → Put out at (first (k + 1)) after2 next2
+    entry-put p = put_same out at (sym (bytes_next source es k more)) (put_then out at (first k) one next-fits so_far λ _. p)

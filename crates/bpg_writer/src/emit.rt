@@ -2,7 +2,6 @@
 ghost use Rattle.std.specs.Prelude.{◌≡◌, ◌+◌, ◌≤◌, ◌<◌, length as count};
 ghost use Rattle.bpg_codec.specs.Bits.{bit as bit_of};
 ghost use Rattle.bpg_codec.specs.Buffer.{written, written_end};
-ghost use Rattle.bpg_format.specs.Limits.{max_entries};
 ghost use Rattle.bpg_format.specs.Syntax.{byte4 as byte_four, byte5 as byte_five, extension_bytes};
 ghost use Rattle.bpg_codec.specs.Lawful.{All};
 ghost use Rattle.bpg_format.specs.Records.{extension_of, used_entries, record_flags};
@@ -10,28 +9,29 @@ ghost use Rattle.bpg_write_plan.specs.FileParts.{head_part, RangeInside, entries
 
 use bpg_bytes::{BytePos, buffer};
 use bpg_format::{Entry, Range, Record};
+use bpg_record_entries::used;
 use bpg_write_bits::BitBuffer;
 use bpg_write_ue7::ue7;
 
 fn bit(b: bool) -> u8
     ensures { (result ≡ bit_of b) × (result < 2) }
 {
-    if b { 1 } else { 0 }
+    u8::from(b)
 }
 
-// Pixel format, alpha1, bit depth minus 8.
-fn byte4(record: Record) -> u8
-    requires pixel_format_bound { «record».pixel_format ≤ 5 }
-    requires bit_depth_minus_8_bound { «record».bit_depth_minus_8 ≤ 6 }
-    ensures { result ≡ byte_four (record_flags «record») }
+// Pixel format, alpha1, bit depth minus 8. (A type for records with such fields would stand beside the one that theorems speak of.)
+fn byte4(record: &Record) -> u8
+    requires pixel_format_bound { «record».now.pixel_format ≤ 5 }
+    requires bit_depth_minus_8_bound { «record».now.bit_depth_minus_8 ≤ 6 }
+    ensures { result ≡ byte_four (record_flags «record».now) }
 {
     record.pixel_format * 32 + bit(record.alpha1_flag) * 16 + record.bit_depth_minus_8
 }
 
 // Colour space, extension flag, alpha2, limited range, animation.
-fn byte5(record: Record) -> u8
-    requires { «record».color_space ≤ 4 }
-    ensures { result ≡ byte_five (record_flags «record») }
+fn byte5(record: &Record) -> u8
+    requires { «record».now.color_space ≤ 4 }
+    ensures { result ≡ byte_five (record_flags «record».now) }
 {
     let extension = bit(record.extension_present_flag) * 8;
     let alpha = bit(record.alpha2_flag) * 4;
@@ -40,13 +40,13 @@ fn byte5(record: Record) -> u8
 }
 
 // Magic, bytes 4 and 5, width, height, data length.
-pub(crate) fn head(out: &mut [u8], record: Record, data_length: u32) -> BytePos
-    requires pixel_format_bound { «record».pixel_format ≤ 5 }
-    requires bit_depth_minus_8_bound { «record».bit_depth_minus_8 ≤ 6 }
-    requires color_space_bound { «record».color_space ≤ 4 }
-    requires data_length_bound { count (head_part «record» data_length) ≤ count out.old }
-    ensures out_after { out.new ≡ written out.old 0 (head_part «record» data_length) }
-    ensures result_value { result.0 ≡ written_end out.old 0 (head_part «record» data_length) }
+pub(crate) fn head(out: &mut [u8], record: &Record, data_length: u32) -> BytePos
+    requires pixel_format_bound { «record».now.pixel_format ≤ 5 }
+    requires bit_depth_minus_8_bound { «record».now.bit_depth_minus_8 ≤ 6 }
+    requires color_space_bound { «record».now.color_space ≤ 4 }
+    requires data_length_bound { count (head_part «record».now data_length) ≤ count out.old }
+    ensures out_after { out.new ≡ written out.old 0 (head_part «record».now data_length) }
+    ensures result_value { result.0 ≡ written_end out.old 0 (head_part «record».now data_length) }
 {
     let start = [0x42, 0x50, 0x47, 0xfb, byte4(record), byte5(record)];
     let p = buffer::write(out, BytePos(0), &start);
@@ -56,11 +56,11 @@ pub(crate) fn head(out: &mut [u8], record: Record, data_length: u32) -> BytePos
 }
 
 // An entry of the extension block: tag, length, payload.
-fn entry(out: &mut [u8], at: BytePos, entry: Entry, source: &[u8]) -> BytePos
-    requires length_bound { entry.payload.start + entry.payload.length ≤ count source.now }
-    requires bound { at.0 + count (extension_bytes (extension_of source.now entry)) ≤ count out.old }
-    ensures out_after { out.new ≡ written out.old at.0 (extension_bytes (extension_of source.now entry)) }
-    ensures result_value { result.0 ≡ written_end out.old at.0 (extension_bytes (extension_of source.now entry)) }
+fn entry(out: &mut [u8], at: BytePos, entry: &Entry, source: &[u8]) -> BytePos
+    requires length_bound { entry.now.payload.start + entry.now.payload.length ≤ count source.now }
+    requires bound { at.0 + count (extension_bytes (extension_of source.now entry.now)) ≤ count out.old }
+    ensures out_after { out.new ≡ written out.old at.0 (extension_bytes (extension_of source.now entry.now)) }
+    ensures result_value { result.0 ≡ written_end out.old at.0 (extension_bytes (extension_of source.now entry.now)) }
 {
     let p = ue7::write(out, at, entry.tag);
     let q = ue7::write(out, p, entry.payload.length);
@@ -73,39 +73,33 @@ fn entry(out: &mut [u8], at: BytePos, entry: Entry, source: &[u8]) -> BytePos
 }
 
 // The entries of the extension block.
-fn entries(out: &mut [u8], at: BytePos, record: Record, source: &[u8]) -> BytePos
-    requires entry_count_bound { «record».entry_count ≤ max_entries }
-    requires all { All (RangeInside (count source.now)) (used_entries «record») }
-    requires source_bound { at.0 + count (entries_part «record» source.now) ≤ count out.old }
-    ensures out_after { out.new ≡ written out.old at.0 (entries_part «record» source.now) }
-    ensures result_value { result.0 ≡ written_end out.old at.0 (entries_part «record» source.now) }
+fn entries(out: &mut [u8], at: BytePos, record: &Record, source: &[u8]) -> BytePos
+    requires all { All (RangeInside (count source.now)) (used_entries «record».now) }
+    requires source_bound { at.0 + count (entries_part «record».now source.now) ≤ count out.old }
+    ensures out_after { out.new ≡ written out.old at.0 (entries_part «record».now source.now) }
+    ensures result_value { result.0 ≡ written_end out.old at.0 (entries_part «record».now source.now) }
 {
-    let all = record.entries;
-    let total = record.entry_count as usize;
-    let mut next = at.0;
-    let mut k: usize = 0;
-    while k < total {
-        let one = all[k];
-        next = entry(out, BytePos(next), one, source).0;
-        k += 1;
+    let used = used::entries(record);
+    let mut next = at;
+    for one in used {
+        next = entry(out, next, one, source);
     }
-    BytePos(next)
+    next
 }
 
 // With the extension flag, the extension length and the block.
 pub(crate) fn block(
     out: &mut [u8],
     at: BytePos,
-    record: Record,
+    record: &Record,
     source: &[u8],
     size: u32,
 ) -> BytePos
-    requires entry_count_bound { «record».entry_count ≤ max_entries }
-    requires all { All (RangeInside (count source.now)) (used_entries «record») }
-    requires size_value { size ≡ count (entries_part «record» source.now) }
-    requires source_bound { at.0 + count (block_part «record» source.now) ≤ count out.old }
-    ensures out_after { out.new ≡ written out.old at.0 (block_part «record» source.now) }
-    ensures result_value { result.0 ≡ written_end out.old at.0 (block_part «record» source.now) }
+    requires all { All (RangeInside (count source.now)) (used_entries «record».now) }
+    requires size_value { size ≡ count (entries_part «record».now source.now) }
+    requires source_bound { at.0 + count (block_part «record».now source.now) ≤ count out.old }
+    ensures out_after { out.new ≡ written out.old at.0 (block_part «record».now source.now) }
+    ensures result_value { result.0 ≡ written_end out.old at.0 (block_part «record».now source.now) }
 {
     if !record.extension_present_flag {
         return at;
@@ -126,7 +120,7 @@ fn header(out: &mut [u8], at: BytePos, present: bool, bits: BitBuffer) -> BytePo
     }
     let size = (bits.len.0 + 7) / 8;
     let p = ue7::write(out, at, size as u32);
-    bpg_write_bits::write(out, p, bits)
+    bits.write(out, p)
 }
 
 // The headers and the data.

@@ -1,6 +1,5 @@
 // Writing a file in two passes: the first judges and measures and changes nothing, the second writes.
 ghost use Rattle.std.specs.Prelude.{◌≡◌, ◌↔◌, ◌≤◌, length};
-ghost use Rattle.bpg_codec.specs.Select.{select};
 ghost use Rattle.bpg_codec.specs.Buffer.{written as written_at};
 ghost use Rattle.bpg_format.specs.Syntax.{file_of};
 ghost use Rattle.bpg_format.specs.Records.{content_of};
@@ -8,14 +7,16 @@ ghost use Rattle.bpg_format.specs.Write.{write_file, write_buffer, write_size, W
 ghost use Rattle.bpg_write_plan.specs.Plans.{Ready};
 
 use crate::emit;
-use bpg_format::{Record, Written, has_alpha, written_refused};
+use bpg_bytes::BytePos;
+use bpg_format::{Record, Written, has_alpha};
+use bpg_refusal::Reason;
 use bpg_write_plan::Plan;
 
 // The whole file, part by part, into a buffer that holds it.
-fn emit_file(out: &mut [u8], record: Record, source: &[u8], plan: Plan)
-    requires ready { Ready «record» source.now plan }
-    requires source_in_bounds { length (file_of (content_of «record» source.now)) ≤ length out.old }
-    ensures { out.new ≡ written_at out.old 0 (file_of (content_of «record» source.now)) }
+fn emit_file(out: &mut [u8], record: &Record, source: &[u8], plan: &Plan)
+    requires ready { Ready «record».now source.now plan.now }
+    requires source_in_bounds { length (file_of (content_of «record».now source.now)) ≤ length out.old }
+    ensures { out.new ≡ written_at out.old 0 (file_of (content_of «record».now source.now)) }
 {
     let data_length = bpg_write_plan::data_length(
         record.explicit_length,
@@ -24,39 +25,7 @@ fn emit_file(out: &mut [u8], record: Record, source: &[u8], plan: Plan)
     let p = emit::head(out, record, data_length as u32);
     let q = emit::block(out, p, record, source, plan.layout.block as u32);
     let plane = has_alpha(record.alpha1_flag, record.alpha2_flag);
-    let data = record.data;
-    emit::headers_and_data(out, q, plane, plan.alpha, plan.color, source, data);
-}
-
-// The answer to a record that is written, or would be.
-fn written(count: usize) -> Written
-    ensures { result ≡ record { status = 0; offset = 0; count = count } }
-{
-    Written {
-        status: 0,
-        offset: 0,
-        count,
-    }
-}
-
-// Writes as `write` does, or answers as `size` does and leaves `out` as it is: one body, so that the record is not handed from function to function.
-pub fn write_or_size(record: Record, source: &[u8], sizing: bool, out: &mut [u8]) -> Written
-    ensures value { result ≡ select sizing (write_size «record» source.now) (write_file «record» source.now out.old) }
-    ensures out_after { out.new ≡ select sizing out.old (write_buffer «record» source.now out.old) }
-{
-    let plan = bpg_write_plan::prepare(record, source);
-    if plan.status != 0 {
-        return written_refused(plan.status, 0);
-    }
-    let size = plan.layout.total as usize;
-    if sizing {
-        return written(size);
-    }
-    if out.len() < size {
-        return written_refused(20, 0);
-    }
-    emit_file(out, record, source, plan);
-    written(size)
+    emit::headers_and_data(out, q, plane, plan.alpha, plan.color, source, record.data);
 }
 
 // Writes the file of a record, whose ranges are in `source`, from the start of `out`; a refusal leaves `out` as it is.
@@ -65,13 +34,25 @@ pub fn write(record: Record, source: &[u8], out: &mut [u8]) -> Written
     ensures out_after { out.new ≡ write_buffer «record» source.now out.old }
     ensures variant { (result.status ≡ 0) ↔ Writable (length out.old) «record» source.now }
 {
-    write_or_size(record, source, false, out)
+    let plan = match bpg_write_plan::prepare(&record, source) {
+        Ok(plan) => plan,
+        Err(reason) => return Written::refused(reason.at(BytePos(0))),
+    };
+    let size = plan.layout.total as usize;
+    let room = out.len();
+    if room < size {
+        return Written::refused(Reason::BufferTooSmall.at(BytePos(0)));
+    }
+    emit_file(out, &record, source, &plan);
+    Written::of(size)
 }
 
 // What `write` answers to a buffer that is large enough: how large it must be, or the refusal. Never 20.
 pub fn size(record: Record, source: &[u8]) -> Written
     ensures { result ≡ write_size «record» source.now }
 {
-    let mut none = [0u8; 0];
-    write_or_size(record, source, true, &mut none)
+    match bpg_write_plan::prepare(&record, source) {
+        Ok(plan) => Written::of(plan.layout.total as usize),
+        Err(reason) => Written::refused(reason.at(BytePos(0))),
+    }
 }

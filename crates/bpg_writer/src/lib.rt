@@ -4,4 +4,4 @@
 mod emit;
 mod file;
 
-pub use file::{size, write, write_or_size};
+pub use file::{size, write};

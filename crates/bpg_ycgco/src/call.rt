@@ -7,7 +7,7 @@ ghost use Rattle.bpg_sample_check.specs.Judgement.{judged};
 ghost use Rattle.bpg_sample_check.specs.Answers.{answer_of, buffer_after};
 
 use crate::planes::convert_planes;
-use bpg_sample_check::{Converted, judge_3, max_sample};
+use bpg_sample_check::{Converted, judge, max_sample};
 
 // R, G and B from Y, Cg and Co; or a refusal, and the buffers as they were.
 pub fn ycgco(
@@ -24,12 +24,10 @@ pub fn ycgco(
     ensures green_after { green.new ≡ buffer_after result.status (zip_with (green_of depth) y.now cg.now) green.old }
     ensures blue_after { blue.new ≡ buffer_after result.status (zip_with3 (blue_of depth) y.now cg.now co.now) blue.old }
 {
-    let lengths = [cg.len(), co.len(), red.len(), green.len(), blue.len()];
-    let answer = judge_3(y, cg, co, &lengths, depth);
-    if answer.status != 0 {
-        return answer;
-    }
-    let m = max_sample(depth);
-    convert_planes(y, cg, co, red, green, blue, m, depth);
-    answer
+    let count = match judge(&[y, cg, co], &[red, green, blue], depth) {
+        Ok(count) => count,
+        Err(reason) => return Converted::refused(reason),
+    };
+    convert_planes(y, cg, co, red, green, blue, max_sample(depth), depth);
+    Converted::of(count)
 }

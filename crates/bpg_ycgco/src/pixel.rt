@@ -1,14 +1,12 @@
-// One pixel, in unsigned numbers: where a difference would be below zero, 0 is what it is brought to. The branches are of a form that is compiled to
-// saturating instructions.
+// One pixel, in unsigned numbers: where a difference would be below zero, 0 is what it is brought to. It is compiled to saturating
+// instructions.
 ghost use Rattle.std.specs.Prelude.{◌≡◌, ◌≤◌, ◌+◌, ◌-◌, ◌/◌, min};
-
-use bpg_sample_check::{larger, smaller};
 
 // a − b, brought into 0 to m.
 fn difference(a: u16, b: u16, m: u16) -> u16
     ensures { result ≡ min m (a - b) }
 {
-    smaller(m, larger(a, b) - b)
+    a.saturating_sub(b).min(m)
 }
 
 // Half of 2^depth, from M.

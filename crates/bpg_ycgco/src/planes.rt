@@ -24,15 +24,12 @@ pub(crate) fn convert_planes(
     ensures blue_after { blue.new ≡ zip_with3 (blue_of depth) y.now cg.now co.now }
 {
     let half = half_range(m);
-    let mut i: usize = 0;
-    while i < y.len() {
-        let luma = y[i];
-        let g = cg[i];
-        let o = co[i];
+    // By index, since of a slice that `iter_mut().zip(..)` has written nothing is known.
+    for i in 0..y.len() {
+        let (luma, g, o) = (y[i], cg[i], co[i]);
         let t = t_plus_half(luma, g, half);
         red[i] = red_at(t, o, m, half);
         green[i] = green_at(luma, g, m, half);
         blue[i] = blue_at(t, o, m);
-        i += 1;
     }
 }

@@ -1,43 +1,23 @@
 // One round of a loop.
-ghost use Rattle.std.specs.Prelude.{◌≡◌, ◌-◌, ◌<◌, ◌≤◌, ◌^◌, length};
+ghost use Rattle.std.specs.Prelude.{true, false, ◌≡◌, ◌-◌, ◌<◌, ◌≤◌, ◌^◌, length, MatchOption};
 ghost use Rattle.loop_player.specs.Player.{total, all_positive, frame_in, ended_by};
 
-#[derive(Clone, Copy)]
-pub struct Round {
-    pub ticks: u64,
-    pub positive: bool,
-}
-
-pub(crate) fn in_64_bits(n: u16) -> u64
-    ensures { (result ≡ n) × (result < 65536) }
-{
-    n as u64
-}
-
-// Sums of 32 bits: a vector holds four of them.
-fn in_32_bits(n: u16) -> u32
-    ensures { (result ≡ n) × (result < 65536) }
-{
-    n as u32
-}
-
-// The ticks of one round, and whether every duration is above 0: one pass, with no branch in it.
-pub(crate) fn add_up(durations: &[u16]) -> Round
+// The ticks of one round, if every duration is above 0: one pass, with no branch in it. The sums have 32 bits, so that a vector holds four of them.
+pub(crate) fn add_up(durations: &[u16]) -> Option<u64>
     requires { length durations.now ≤ 256 }
-    ensures { (result.ticks ≡ total durations.now) × (result.ticks < 2 ^ 24) × (result.positive ≡ all_positive durations.now) }
+    ensures { MatchOption result (all_positive durations.now ≡ false) (λ t. (t ≡ total durations.now) × (t < 2 ^ 24) × (all_positive durations.now ≡ true)) }
 {
     let mut ticks = 0u32;
     let mut positive = true;
-    let mut i = 0;
-    while i < durations.len() {
-        let d = in_32_bits(durations[i]);
+    for duration in durations {
+        let d = u32::from(*duration);
         ticks += d;
         positive = positive & (0 < d);
-        i += 1;
     }
-    Round {
-        ticks: ticks as u64,
-        positive,
+    if positive {
+        Some(u64::from(ticks))
+    } else {
+        None
     }
 }
 
@@ -47,16 +27,14 @@ pub(crate) fn frame_in(durations: &[u16], r: u64) -> u32
     ensures { result ≡ frame_in durations.now r }
 {
     let mut left = r;
-    let mut i = 0;
-    while i < durations.len() {
-        let d = in_64_bits(durations[i]);
+    for (i, duration) in durations.iter().enumerate() {
+        let d = u64::from(*duration);
         if left < d {
             return i as u32;
         }
         left -= d;
-        i += 1;
     }
-    i as u32
+    durations.len() as u32
 }
 
 // Whether all rounds are over. The product is below 2^40.
@@ -64,7 +42,7 @@ pub(crate) fn is_over(loop_count: u16, round: u64, tick: u64) -> bool
     requires { round < 2 ^ 24 }
     ensures { result ≡ ended_by loop_count round tick }
 {
-    let end = in_64_bits(loop_count) * round;
+    let end = u64::from(loop_count) * round;
     (0 < loop_count) & (end <= tick)
 }
 

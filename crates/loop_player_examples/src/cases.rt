@@ -1,9 +1,16 @@
 // A case: the call's arguments are taken out of its bytes.
 use crate::numbers::{number2, number4, number8, read_list};
-use crate::text;
+use bpg_cases::text;
 
 // More than the cases take.
 const MOST: usize = 300;
+
+// What each answer ends with.
+fn show_answer(frame: u32, ended: bool) {
+    text::show_number(b" frame ", frame);
+    text::show_number(b" ended ", ended);
+    text::show(b"\n");
+}
 
 // The durations are read into the list that is lent.
 fn show_read(s: &[u8], tail: &[u8], durations: &mut [u16]) {
@@ -16,7 +23,7 @@ fn show_read(s: &[u8], tail: &[u8], durations: &mut [u16]) {
         number8(s, 6),
     );
     text::show_number(b"", answer.status as u64);
-    text::show_frame(answer.frame, answer.ended);
+    show_answer(answer.frame, answer.ended);
 }
 
 fn show_frame(s: &[u8]) {
@@ -43,9 +50,8 @@ fn show_time(s: &[u8]) {
         return;
     }
     let shown = loop_player_file::frame_at_time(&s[4..], number4(s, 0));
-    text::show_number(b"", shown.status as u64);
-    text::show_number(b" at ", shown.offset as u64);
-    text::show_frame(shown.frame, shown.ended);
+    text::show_answer(shown.status, shown.offset);
+    show_answer(shown.frame, shown.ended);
 }
 
 fn show_call(call: u8, s: &[u8]) {
@@ -56,13 +62,9 @@ fn show_call(call: u8, s: &[u8]) {
     }
 }
 
-// The first bytes are the case. An empty line prints nothing.
-pub(crate) fn show(bytes: &[u8], size: usize) {
-    if size < 1 {
-        return;
+// An empty line prints nothing.
+pub(crate) fn show(case: &[u8]) {
+    if !case.is_empty() {
+        show_call(case[0], &case[1..]);
     }
-    if bytes.len() < size {
-        return;
-    }
-    show_call(bytes[0], &bytes[1..size]);
 }

@@ -1,6 +1,9 @@
-// What a screen is answered: the frame, from 0, and whether the loop ended; or a refusal and zeros.
+// What a screen is answered: the frame, from 0, and whether the loop ended; or a refusal and zeros. (A number and zeros, for C, and because the theorems
+// of specs/Requirements speak of the zeros of a refusal.)
 ghost use Rattle.std.specs.Prelude.{◌≡◌};
 ghost use Rattle.loop_player_file.specs.Files.{refused_shown, refusal_by, played_at};
+
+use bpg_refusal::Reason;
 
 #[derive(Clone, Copy)]
 pub struct Shown {
@@ -25,10 +28,11 @@ fn refused(status: u8, offset: usize) -> Shown
 pub(crate) fn refusal(status: u8, offset: usize) -> Shown
     ensures { result ≡ refusal_by status offset }
 {
-    if status == 20 {
-        return refused(37, 0);
+    if status == Reason::BufferTooSmall.number() {
+        refused(Reason::Unplayable.number(), 0)
+    } else {
+        refused(status, offset)
     }
-    refused(status, offset)
 }
 
 // The player's answer, to a time.

@@ -16,7 +16,7 @@ pub fn frame_at_time(file: &[u8], ms: u32) -> Shown
     }
     let count = frames.count;
     let reading = bpg_reader::read(file);
-    let record = reading.record;
+    let record = &reading.record;
     played(
         record.loop_count,
         record.frame_period_num,

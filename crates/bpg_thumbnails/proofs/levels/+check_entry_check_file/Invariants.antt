@@ -1,5 +1,5 @@
 -- The two call each other, and the levels left fall: 2·left for an entry, 2·left + 1 for a file. The loop: what the entries that are left give is what all give.
-use Rattle.std.proofs.Common.{◌-◌, ◌≡◌, ◌+◌, take, drop}
+use Rattle.std.proofs.Common.{◌≡◌, ◌+◌, drop}
 use Rattle.bpg_thumbnails.specs.Thumbnails.{check_entries}
 use Rattle.bpg_thumbnails.proofs.LevelLaws.{rest}
 use Rattle.bpg_thumbnails.proofs.levels.+check_entry_check_file.Given as goal
@@ -10,8 +10,5 @@ decreases-check_entry l = l.left + l.left
 abbrev pub decreases-check_file : goal.decreases-check_file
 decreases-check_file l = l.left + l.left + 1
 
-abbrev pub invariant-check_file-loop-k : goal.invariant-check_file-loop-k
-invariant-check_file-loop-k l = rest l.left l.file l.start (drop l.k (take l.count l.entries)) ≡ check_entries l.left l.file l.start
-
-abbrev pub decreases-check_file-loop-k : goal.decreases-check_file-loop-k
-decreases-check_file-loop-k l = l.count - l.k
+abbrev pub invariant-check_file-loop-entry : goal.invariant-check_file-loop-entry
+invariant-check_file-loop-entry l = rest l.left l.file l.start (drop l.entry-index l.used) ≡ check_entries l.left l.file l.start

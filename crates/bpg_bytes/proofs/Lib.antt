@@ -1,2 +1,0 @@
--- Laws of the functions on bytes.
-pub mod CompareLaws

@@ -1,0 +1,20 @@
+-- What is lent of the buffer comes back with the part in it.
+use Rattle.std.proofs.Common.{◌<◌, ◌+◌, length, arith}
+use Rattle.bpg_codec.proofs.Buffer.{refused}
+use Rattle.bpg_codec.proofs.Copying.{part-written}
+use Rattle.bpg_bytes.proofs.buffer.put.Goals as goal
+use Rattle.bpg_bytes.proofs.buffer.put.Goals.{then-out-at-via-then-out-at, then-out-at-via-else-out-at+then-out-at-2}
+
+pub returns-then-out-at : goal.returns-then-out-at
+returns-then-out-at g c =
+    let a = c.args in
+    let n : length a.out.now < a.at + length a.part.now =
+    elim c.then-out-at.branch [ then-out-at-via-then-out-at w ↦ omega arith | then-out-at-via-else-out-at+then-out-at-2 w ↦ omega arith ] in
+    let r = refused a.out.now a.at a.part.now n in
+    record { out_after = r.0; result_value = r.1 }
+
+pub returns : goal.returns
+returns g c =
+    let a = c.args in
+    let r = part-written a.out.now _ a.part.now a.at c.copy_from_slice.ensures.after (omega arith) in
+    record { out_after = r.0; result_value = r.1 }

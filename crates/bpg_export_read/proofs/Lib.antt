@@ -1,2 +1,0 @@
--- Laws of reading for C and Rust.
-pub mod CallLaws

@@ -1,2 +1,0 @@
--- Laws of the rules on a header.
-pub mod RuleLaws

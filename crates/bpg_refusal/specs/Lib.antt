@@ -1,0 +1,3 @@
+-- The refusals' numbers, and answers as outcomes of decoding.
+pub mod Numbers
+pub mod Outcomes
