@@ -4,25 +4,21 @@
 usage: python3 web/for_wasm32.py MODULE.ll > OTHER.ll
 
 The module counts with pointers of 8 bytes, and on wasm32 they have 4. That is harmless as long as a pointer stands at the place that the module says,
-and no more of that place is read as a pointer. So a place for one keeps its 8 bytes; and the module is refused where a pointer is made of a number or
-the other way round, or where a value that is read, written or stepped over whole would have its parts at other places.
+and no more of that place is read as a pointer. So a place for one keeps its 8 bytes, and a number and a pointer that are read as one value are read
+one by one; and the module is refused where a pointer is made of a number or the other way round, or where another value that is read, written or
+stepped over whole would have its parts at other places.
 """
 
 import re
 import sys
 
 SIZES = {"float": 4, "double": 8}
-UNFIT = re.compile(r"\b(ptrtoint|inttoptr|addrspacecast|va_arg)\b")
+UNFIT = re.compile(r"\b(ptrtoint|ptrtoaddr|inttoptr|addrspacecast|va_arg)\b")
 # The type that is read, written or stepped over, right after these words.
 TYPED = re.compile(r"= load (?:volatile )?|^  store (?:volatile )?|\bgetelementptr (?:inbounds |nuw |nusw )*|= alloca |^@[^ ]+ = .*?\b(?:constant|global) ")
 TOKEN = re.compile(r"\s*(<\{|\}>|[\[\]{}<>,]|\d+ x|i\d+|ptr|float|double)")
-
-
 # A number and a pointer that are read as one, as an optional reference is.
-PAIR = re.compile(r"  (%[^ ]+) = load (\{ i\d+, ptr \}), ptr (%[^ ]+), align (\d+)$")
-
-# The address of a pointer, which copying takes to see whether two places overlap.
-ADDRESS = re.compile(r"  (%[^ ]+) = ptrtoaddr ptr (%[^ ]+) to i64$")
+PAIR = re.compile(r"  (%[^ ]+) = load \{ (i1|i8|i16|i32|i64), ptr \}, ptr (%[^ ]+), align 8$")
 
 
 class Unknown(Exception):
@@ -95,19 +91,14 @@ def stands_as_before(line, at):
 
 
 def apart(line):
-    """Returns the line; for a pair that is read as one, lines that read its parts from the places that x86-64 gives them, and for an address of
-    8 bytes those that widen one of 4 bytes."""
-    address = ADDRESS.match(line)
-    if address:
-        value, pointer = address.groups()
-        return f"  {value}.narrow = ptrtoint ptr {pointer} to i32\n  {value} = zext i32 {value}.narrow to i64\n"
+    """Returns the line; for a pair that is read as one, lines that read its parts from the places that x86-64 gives them."""
     pair = PAIR.match(line)
     if not pair:
         return line
-    value, kind, place, align = pair.groups()
-    number = kind.split()[1].rstrip(",")
+    value, number, place = pair.groups()
+    kind = f"{{ {number}, ptr }}"
     return (
-        f"  {value}.number = load {number}, ptr {place}, align {align}\n"
+        f"  {value}.number = load {number}, ptr {place}, align 8\n"
         f"  {value}.place = getelementptr i8, ptr {place}, i64 8\n"
         f"  {value}.pointer = load ptr, ptr {value}.place, align 8\n"
         f"  {value}.half = insertvalue {kind} poison, {number} {value}.number, 0\n"
@@ -125,7 +116,7 @@ def main(file):
             for each in apart(line).splitlines(keepends=True):
                 code = re.sub(r'c?"[^"]*"', '""', each)
                 found = [it.end() for it in TYPED.finditer(code)]
-                if UNFIT.search(code) and ".narrow = " not in code or not all(stands_as_before(code, at) for at in found):
+                if UNFIT.search(code) or not all(stands_as_before(code, at) for at in found):
                     bad.append(f"{file}:{number}: {each.strip()}")
                 sys.stdout.write(each)
     print(*bad[:20], sep="\n", file=sys.stderr)

@@ -10,12 +10,12 @@ use bpg_read_survey::survey;
 pub fn partition(file: &[u8]) -> Partition
     ensures { result ≡ partition_answer file.now }
 {
-    let found = match survey(file, None) {
-        Ok(found) => found,
+    let found = survey(file, None);
+    let rest = match found.rest {
+        Ok(rest) => rest,
         Err(refusal) => return Partition::refused(refusal),
     };
-    let head = found.head;
-    let rest = found.rest;
+    let head = found.head.unwrap();
     let block = head.extension_length as usize;
     let block_end = head.end.0 + block;
     let data = rest.headers.next.0;

@@ -16,14 +16,16 @@ pub struct BlockBounds {
 pub fn block_bounds(file: &[u8]) -> BlockBounds
     ensures { result ≡ block_bounds file.now }
 {
-    let Ok(found) = survey(file, None) else {
+    let found = survey(file, None);
+    let Ok(_) = found.rest else {
         return BlockBounds {
             start: BytePos(0),
             end: BytePos(0),
         };
     };
-    let start = found.head.end;
-    let end = start.0 + found.head.extension_length as usize;
+    let head = found.head.unwrap();
+    let start = head.end;
+    let end = start.0 + head.extension_length as usize;
     BlockBounds {
         start,
         end: BytePos(end),

@@ -14,7 +14,7 @@ use bpg_bytes::BytePos;
 use bpg_export_list::{FIXED, put};
 use bpg_format::Written;
 use bpg_read_entries::entry;
-use bpg_read_survey::survey;
+use bpg_read_survey::{FileSurvey, survey};
 use bpg_refusal::Reason;
 
 // The numbers of entry k, in its place.
@@ -32,17 +32,19 @@ pub fn read(file: &[u8], given: Option<&[u64]>, numbers: &mut [u64]) -> Written
     ensures value { result ≡ written_answer (listed (count numbers.old) (either_reading (option_copied given.entry) file.now)) }
     ensures numbers_after { numbers.new ≡ written_buffer (listed (count numbers.old) (either_reading (option_copied given.entry) file.now)) numbers.old }
 {
-    let found = match survey(file, given) {
-        Ok(found) => found,
+    let found = survey(file, given);
+    let rest = match found.rest {
+        Ok(rest) => rest,
         Err(refusal) => return Written::refused(refusal),
     };
-    let used = found.rest.block.entry_count as usize;
+    let head = found.head.unwrap();
+    let used = rest.block.entry_count as usize;
     if numbers.len() < FIXED + 4 * used {
         return Written::refused(Reason::BufferTooSmall.at(BytePos(0)));
     }
-    put_fixed(numbers, file.len(), found);
-    let end = found.head.end.0 + found.head.extension_length as usize;
-    let mut next = found.head.end;
+    put_fixed(numbers, file.len(), FileSurvey { head, rest });
+    let end = head.end.0 + head.extension_length as usize;
+    let mut next = head.end;
     for k in 0..used {
         let step = entry::read_checked(&file[..end], next).unwrap();
         let length = step.value.payload.length;

@@ -5,7 +5,11 @@ use mathlib.Core.List.{List}
 use Prim.Native.Nat.{ℕ, ◌+◌, ◌≤◌}
 use native.Mathlib.Omega.{arith}
 use lib.ListN.{length, drop}
+use Rattle.std.specs.Prelude.{Result, Ok, Err, IsOk}
 use Rattle.bpg_codec.specs.Outcome.{Outcome, ok, error}
+use Rattle.bpg_refusal.specs.declared.Refusal.{Refusal}
+use Rattle.bpg_refusal.specs.Numbers.{reason_number}
+use Rattle.bpg_refusal.specs.Outcomes.{outcome}
 use Rattle.bpg_codec.specs.Lawful.{All, Byte}
 use Rattle.bpg_codec.proofs.Outcome.{error-not-ok, ok-injective, unbind, unguard}
 use Rattle.bpg_format.specs.Limits.{max_file}
@@ -21,12 +25,13 @@ use Rattle.bpg_read_head.specs.declared.head.Head.{Head as PlacedHead}
 use Rattle.bpg_read_head.specs.Heads.{head_fields}
 use Rattle.bpg_head_rules.specs.declared.CodedHead.{CodedHead}
 use Rattle.bpg_read_survey.specs.declared.rest.RestSurvey.{RestSurvey}
-use Rattle.bpg_read_survey.specs.declared.given.FileSurvey.{FileSurvey}
+use Rattle.bpg_read_survey.specs.declared.given.Surveyed.{Surveyed}
 use Rattle.bpg_read_survey.specs.Given.{read_given}
 use Rattle.bpg_read_survey.specs.Bodies.{body_content}
-use Rattle.bpg_read_survey.specs.Surveys.{rest_of, survey_parts, file_survey}
+use Rattle.bpg_read_survey.specs.Surveys.{rest_of, survey_of, survey_parts, file_survey}
 use Rattle.bpg_read_survey.proofs.HeadOf.{head_of, head-of}
 use Rattle.bpg_read_survey.proofs.GivenLaws.{given-accepted}
+use Rattle.bpg_read_survey.proofs.BodyLaws.{unanswered, answered}
 
 -- ---- a file whose body was read
 
@@ -57,44 +62,49 @@ module _ (is_own : CodedHead → Bool) (file : List ℕ) where
   abbrev read : Outcome Content
   read = read_given is_own file
 
-  -- a file with a content has a head
-  whole : (c : Content) → read ≡ ok c → (h : Head) → read_head file ≡ ok h → file_survey file read ≡ ok (h, rest_of (length file) c)
-  whole c w h e = rw (w, e)
+  -- of a survey of the file, by what follows the head
+  module _ (s : Surveyed) (e : survey_parts s ≡ file_survey file read) where
+    head_said : outcome head_fields s.head ≡ read_head file
+    head_said = ap (λ (x : Outcome Head × Outcome RestSurvey). x.0) e
 
-  pub survey-refused : (s o : ℕ) → error s o ≡ file_survey file read → read ≡ error s o
-  survey-refused s o e = by read refl
-    where
-      by : (m : Outcome Content) → read ≡ m → read ≡ error s o
-      by (ok c) w = given-accepted is_own file c w λ h head_read _ _. absurd (error-not-ok (e ∙ whole c w h head_read))
-      by (error t p) w =
-          let e2 : ◌≡◌ {A = Outcome (Head × RestSurvey)} (error s o) (error t p) = e ∙ ap (file_survey file) w in
-          w ∙ cc
+    rest-said : outcome (λ x. x) s.rest ≡ survey_of (length file) read
+    rest-said = ap (λ (x : Outcome Head × Outcome RestSurvey). x.1) e
 
-  module _ (bytes : All Byte file) (s : FileSurvey) (e : ok (survey_parts s) ≡ file_survey file read) where
-    accepted : (c : Content) → read ≡ ok c → FileRead file s.head s.rest × (read ≡ read_content file)
-    accepted c w =
-        given-accepted is_own file c w λ h head_read read-body content_read.
-        let r = read_is file bytes c content_read in
-        let parts : survey_parts s ≡ (h, rest_of (length file) c) = ok-injective (e ∙ whole c w h head_read) in
-        let head : head_fields s.head ≡ h = ap (λ (x : Head × RestSurvey). x.0) parts in (
-          record {
-            content = c;
-            made = subst (λ (x : Head). c ≡ body_content x c.extensions c.alpha_header c.color_header c.hevc_data) (sym head) (body-fields h (drop h.end file) c read-body);
-            rules = r.0;
-            is = r.1;
-            read = content_read;
-            heads = head ∙ ok-injective (sym head_read ∙ ap read_head r.1 ∙ head-of c r.0);
-            survey = ap (λ (x : Head × RestSurvey). x.1) parts;
-          },
-          w ∙ sym content_read,
-        )
+    pub survey-refused : (r : Refusal) → s.rest ≡ Err r → read ≡ error (reason_number r.reason) r.offset.0
+    survey-refused r is = unanswered read (rest_of (length file)) _ _ (ap (outcome (λ x. x)) (sym is) ∙ rest-said)
 
-    pub survey-read : FileRead file s.head s.rest × (read ≡ read_content file)
-    survey-read = by read refl
-      where
-        by : (m : Outcome Content) → read ≡ m → FileRead file s.head s.rest × (read ≡ read_content file)
-        by (ok c) w = accepted c w
-        by (error t p) w = absurd (error-not-ok (sym (e ∙ ap (file_survey file) w)))
+    module _ (x : RestSurvey) (is : s.rest ≡ Ok x) where
+      pub by-content : {P : Type 0} → ((c : Content) → read ≡ ok c → x ≡ rest_of (length file) c → P) → P
+      by-content then = answered read (rest_of (length file)) x (ap (outcome (λ x. x)) (sym is) ∙ rest-said) then
+
+      -- then it has a head
+      pub head_there : IsOk s.head
+      head_there = by-content λ c w _. given-accepted is_own file c w λ h head_read _ _. by s.head (head_said ∙ head_read)
+        where
+          by : {h : Head} (r : Result PlacedHead Refusal) → outcome head_fields r ≡ ok h → IsOk r
+          by (Ok p) e = refl
+          by (Err r) e = absurd (error-not-ok e)
+
+      module _ (bytes : All Byte file) (p : PlacedHead) (head_is : s.head ≡ Ok p) where
+        accepted : (c : Content) → read ≡ ok c → x ≡ rest_of (length file) c → FileRead file p x × (read ≡ read_content file)
+        accepted c w i =
+            given-accepted is_own file c w λ h head_read read-body content_read.
+            let r = read_is file bytes c content_read in
+            let head : head_fields p ≡ h = ok-injective (ap (outcome head_fields) (sym head_is) ∙ head_said ∙ head_read) in (
+              record {
+                content = c;
+                made = subst (λ (x : Head). c ≡ body_content x c.extensions c.alpha_header c.color_header c.hevc_data) (sym head) (body-fields h (drop h.end file) c read-body);
+                rules = r.0;
+                is = r.1;
+                read = content_read;
+                heads = head ∙ ok-injective (sym head_read ∙ ap read_head r.1 ∙ head-of c r.0);
+                survey = i;
+              },
+              w ∙ sym content_read,
+            )
+
+        pub survey-read : FileRead file p x × (read ≡ read_content file)
+        survey-read = by-content accepted
 
 module _ {file : List ℕ} {head : PlacedHead} {s : RestSurvey} (k : FileRead file head s) where
   abbrev c : Content

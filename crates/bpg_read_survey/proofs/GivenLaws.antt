@@ -1,5 +1,5 @@
 -- Reading on from a head that was given, by the file's length, by what its head is read as, and by whether that is the one given.
-use mathlib.Core.Path.{◌≡◌, refl, sym, ◌∙◌, subst}
+use mathlib.Core.Path.{◌≡◌, refl, sym, ap, ◌∙◌, subst}
 use mathlib.Core.Bool.{Bool, true, false}
 use mathlib.Core.Logic.{◌≢◌}
 use mathlib.Core.List.{List}
@@ -25,9 +25,8 @@ use Rattle.bpg_head_rules.specs.Calls.{coded_head, fields_of}
 use Rattle.bpg_read_survey.specs.declared.rest.RestSurvey.{RestSurvey}
 use Rattle.bpg_read_survey.specs.Given.{read_given, BodyStatus}
 use Rattle.bpg_read_survey.specs.Bodies.{HeadRead}
-use Rattle.bpg_read_survey.specs.Surveys.{rest_of, survey_of, file_survey}
+use Rattle.bpg_read_survey.specs.Surveys.{survey_of}
 use Rattle.bpg_read_survey.proofs.ContentSteps.{content-error, content-body}
-use Rattle.bpg_read_survey.proofs.BodyLaws.{unanswered, answered}
 
 -- where no head is given, it is reading
 pub none-given : (file : List ℕ) → read_given (λ _. true) file ≡ read_content file
@@ -100,26 +99,20 @@ head-known file bytes short head e =
     record { bytes = bytes; short = short; read = sym e; end-inside = f.end-inside; depth-limit = f.depth-limit }
 
 module _ (is_own : CodedHead → Bool) (file : List ℕ) where
-  pub too_long : max_file < length file → error 1 0 ≡ file_survey file (read_given is_own file)
+  -- what follows the head, in a file of this length
+  abbrev rest : Outcome RestSurvey
+  rest = survey_of (length file) (read_given is_own file)
+
+  pub too_long : max_file < length file → error 1 0 ≡ rest
   too_long h = rw (given-long is_own file h)
 
   module _ (short : length file ≤ max_file) where
-    pub head-refused : (s o : ℕ) → error s o ≡ read_head file → error s o ≡ file_survey file (read_given is_own file)
+    pub head-refused : (s o : ℕ) → error s o ≡ read_head file → error s o ≡ rest
     head-refused s o e = rw (given-refused is_own file short s o (sym e))
 
     module _ (head : PlacedHead) (e : ok (head_fields head) ≡ read_head file) where
-      pub other-head : is_own (fields_of head) ≡ false → error 21 0 ≡ file_survey file (read_given is_own file)
+      pub other-head : is_own (fields_of head) ≡ false → error 21 0 ≡ rest
       other-head t = rw (given-other is_own file short (head_fields head) (sym e) t)
 
-      module _ (t : is_own (fields_of head) ≡ true) where
-        abbrev body : Outcome Content
-        body = read_body (head_fields head) (drop head.end.0 file)
-
-        own : read_given is_own file ≡ body
-        own = given-same is_own file short (head_fields head) (sym e) t
-
-        pub rest-refused : (s o : ℕ) → error s o ≡ survey_of (length file) body → error s o ≡ file_survey file (read_given is_own file)
-        rest-refused s o r = let w = unanswered body (rest_of (length file)) s o r in rw (own, w)
-
-        pub rest-read : (x : RestSurvey) → ok x ≡ survey_of (length file) body → ok (head_fields head, x) ≡ file_survey file (read_given is_own file)
-        rest-read x r = answered body (rest_of (length file)) x r λ c w i. rw (own, w, ← e, i)
+      pub rest-is : is_own (fields_of head) ≡ true → survey_of (length file) (read_body (head_fields head) (drop head.end.0 file)) ≡ rest
+      rest-is t = ap (survey_of (length file)) (sym (given-same is_own file short (head_fields head) (sym e) t))

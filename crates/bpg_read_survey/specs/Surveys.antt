@@ -2,12 +2,13 @@
 use Rattle.std.specs.Prelude.{List, ℕ, ◌-◌, length}
 use Rattle.bpg_codec.specs.Outcome.{Outcome, ok, ◌>>=◌}
 use Rattle.bpg_bytes.specs.Positions.{byte_pos}
+use Rattle.bpg_refusal.specs.Outcomes.{outcome}
 use Rattle.bpg_format.specs.Content.{Content}
 use Rattle.bpg_format.specs.Read.{Head, read_head}
 use Rattle.bpg_read_head.specs.Heads.{head_fields}
 use Rattle.bpg_read_entries.specs.Blocks.{block_of}
 use Rattle.bpg_read_survey.specs.declared.rest.RestSurvey.{RestSurvey}
-use Rattle.bpg_read_survey.specs.declared.given.FileSurvey.{FileSurvey}
+use Rattle.bpg_read_survey.specs.declared.given.Surveyed.{Surveyed}
 
 -- what a content's file has after the head, in a file of `len` bytes; the data is its end
 abbrev pub rest_of : (len : ℕ) → Content → RestSurvey
@@ -21,9 +22,9 @@ rest_of len c =
 abbrev pub survey_of : (len : ℕ) → Outcome Content → Outcome RestSurvey
 survey_of len o = o >>= λ c. ok (rest_of len c)
 
--- what a file says: its head, and what follows it
-abbrev pub survey_parts : FileSurvey → Head × RestSurvey
-survey_parts s = (head_fields s.head, s.rest)
+-- what a file says: its head, also where the file is refused, and what follows it
+abbrev pub survey_parts : Surveyed → Outcome Head × Outcome RestSurvey
+survey_parts s = (outcome head_fields s.head, outcome (λ x. x) s.rest)
 
-abbrev pub file_survey : (file : List ℕ) → Outcome Content → Outcome (Head × RestSurvey)
-file_survey file o = o >>= λ c. read_head file >>= λ h. ok (h, rest_of (length file) c)
+abbrev pub file_survey : (file : List ℕ) → Outcome Content → Outcome Head × Outcome RestSurvey
+file_survey file o = (read_head file, survey_of (length file) o)

@@ -4,5 +4,5 @@
 mod given;
 mod rest;
 
-pub use given::{FileSurvey, survey};
+pub use given::{FileSurvey, Surveyed, survey};
 pub use rest::RestSurvey;

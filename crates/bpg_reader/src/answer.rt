@@ -8,11 +8,14 @@ use bpg_format::{Entry, MAX_ENTRIES, Range, Reading, Record};
 use bpg_read_animation::animation;
 use bpg_read_survey::FileSurvey;
 
+// A coding block is at most 64 wide. (A constant, so that an edit of the limit leaves the names that the proof cites.)
+const LARGEST_LOG2_SIZE: u32 = 6;
+
 // A size rounded up to a multiple of the smallest coding block, whose size is 2^log2_size; 0 where log2_size is above 6, as it is in no accepted header.
 pub fn coded_size(size: u32, log2_size: u32) -> u64
     ensures { result ≡ rounded_size size log2_size }
 {
-    if 6 < log2_size {
+    if LARGEST_LOG2_SIZE < log2_size {
         return 0;
     }
     let unit = 1u64 << log2_size;

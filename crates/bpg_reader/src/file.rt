@@ -9,21 +9,23 @@ use crate::answer;
 use bpg_format::Reading;
 use bpg_head_call::call::{CodedHead, head_numbers};
 use bpg_read_entries::entry;
-use bpg_read_survey::survey;
+use bpg_read_survey::{FileSurvey, survey};
 use bpg_refusal::Refusal;
 
 // What `body` answers, with the head's numbers in a list, or `read`.
 fn read_or_body(file: &[u8], given: Option<&[u64]>) -> Reading
     ensures { result ≡ either_reading (option_copied given.entry) file.now }
 {
-    let found = match survey(file, given) {
-        Ok(found) => found,
+    let found = survey(file, given);
+    let rest = match found.rest {
+        Ok(rest) => rest,
         Err(refusal) => return Reading::refused(refusal),
     };
-    let mut reading = answer::assemble(file.len(), found);
-    let count = found.rest.block.entry_count as usize;
-    let end = found.head.end.0 + found.head.extension_length as usize;
-    let mut next = found.head.end;
+    let head = found.head.unwrap();
+    let mut reading = answer::assemble(file.len(), FileSurvey { head, rest });
+    let count = rest.block.entry_count as usize;
+    let end = head.end.0 + head.extension_length as usize;
+    let mut next = head.end;
     for k in 0..count {
         let step = entry::read_checked(&file[..end], next).unwrap();
         reading.record.entries[k] = step.value;
@@ -52,6 +54,6 @@ pub fn body(given: CodedHead, file: &[u8]) -> Reading
 pub fn judge(file: &[u8]) -> Result<(), Refusal>
     ensures { verdict result ≡ verdict_of (read_file file.now) }
 {
-    survey(file, None)?;
+    survey(file, None).rest?;
     Ok(())
 }

@@ -10,7 +10,7 @@ use bpg_bytes::{BytePos, buffer};
 const LINE_SIZE: usize = 160;
 
 // A fixed array and how much of it is in use: a line takes no heap.
-#[derive(Drop)]
+#[derive(Clone, Copy)]
 pub struct LineBuffer {
     bytes: [u8; LINE_SIZE],
     len: usize,

@@ -19,7 +19,7 @@ fn largest(n: u32) -> u64
     (1u64 << n.min(32)) - 1
 }
 
-// The number of at most n bits at `at`; n above 32 counts as 32.
+// The number of at most n bits at `at`; n above 32 counts as 32. Most numbers have one byte, so the first is read before the loop.
 pub fn read(region: &[u8], at: BytePos, n: u32) -> Result<Located<u32>, Refusal>
     ensures { outcome number_at result ≡ located ((ue7 (min n 32)).decode at.0 at.0 (drop at.0 region.now)) }
 {
@@ -27,12 +27,23 @@ pub fn read(region: &[u8], at: BytePos, n: u32) -> Result<Located<u32>, Refusal>
     if region.len() <= start {
         return Err(Reason::Truncated.at(at));
     }
-    if region[start] == 0x80 {
+    let first = region[start];
+    if first == 0x80 {
         return Err(Reason::NumberNotShortest.at(at));
     }
     let most = largest(n);
-    let mut value: u64 = 0;
-    for i in start..region.len() {
+    let low = u64::from(first % 128);
+    if most < low {
+        return Err(Reason::NumberTooLarge.at(at));
+    }
+    if first < 128 {
+        return Ok(Located {
+            value: u32::from(first),
+            next: BytePos(start + 1),
+        });
+    }
+    let mut value = low;
+    for i in start + 1..region.len() {
         let byte = region[i];
         value = value * 128 + u64::from(byte % 128);
         if most < value {

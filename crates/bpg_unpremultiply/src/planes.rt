@@ -25,6 +25,13 @@ pub(crate) fn convert_planes(
     // By index, since of a slice that `iter_mut().zip(..)` has written nothing is known.
     for i in 0..a.len() {
         let alpha = a[i];
+        // A pixel of no colour needs no division: a transparent ground is most of many pictures.
+        if alpha == 0 {
+            red[i] = m;
+            green[i] = m;
+            blue[i] = m;
+            continue;
+        }
         let v = reciprocal(alpha);
         red[i] = unpremultiply_sample(r[i], alpha, m, v);
         green[i] = unpremultiply_sample(g[i], alpha, m, v);

@@ -3,8 +3,6 @@
 ghost use Rattle.std.specs.Prelude.{◌≡◌};
 ghost use Rattle.loop_player_file.specs.Files.{refused_shown, refusal_by, played_at};
 
-use bpg_refusal::Reason;
-
 #[derive(Clone, Copy)]
 pub struct Shown {
     pub status: u8,
@@ -24,12 +22,13 @@ fn refused(status: u8, offset: usize) -> Shown
     }
 }
 
-// A refusal of the first library. There 20 says that the list is too short, so that there are more frames than the player takes.
+// A refusal of the first library. There 20 says that the list is too short, so that there are more frames than the player takes. (Numbers and no `Reason`:
+// of the first library this one names its calls alone.)
 pub(crate) fn refusal(status: u8, offset: usize) -> Shown
     ensures { result ≡ refusal_by status offset }
 {
-    if status == Reason::BufferTooSmall.number() {
-        refused(Reason::Unplayable.number(), 0)
+    if status == 20 {
+        refused(37, 0)
     } else {
         refused(status, offset)
     }

@@ -4,25 +4,28 @@ use lib.Seq.{length-take-le}
 use Rattle.bpg_read_survey.proofs.FileRead.{short, data-inside}
 use Rattle.bpg_read_survey.proofs.Walking.{begins, end-inside, entry_reads}
 use Rattle.bpg_partition.proofs.PayloadLaws.{none-counted, next-counted, all-counted}
-use Rattle.bpg_partition.proofs.CallLaws.{file_read, partition-refused, payloads-within, block-before, partition-is}
+use Rattle.bpg_partition.proofs.CallLaws.{file_read, head-read, partition-refused, payloads-within, block-before, partition-is}
 use Rattle.bpg_partition.proofs.call.partition.Goals as goal
 
 pub returns-in-Err : goal.returns-in-Err
-returns-in-Err c = rw c.refused.ensures (partition-refused c.args.file.now _ _ c.in-Err.ensures)
+returns-in-Err c = rw c.refused.ensures (partition-refused c.args.file.now c.survey-found.result c.survey-found.ensures c.in-Err.refusal c.in-Err.is)
+
+pub unwrap-head-requires : goal.unwrap-head-requires
+unwrap-head-requires c = head-read c.args.file.now c.survey-found.result c.survey-found.ensures c.in-Ok.rest c.in-Ok.is
 
 pub overflow_add-block_end : goal.overflow_add-block_end
 overflow_add-block_end c =
-    let w = file_read c.args.file.now (λ i. omega (arith, c.type_inv.file i)) c.in-Ok.found c.in-Ok.ensures in
+    let w = file_read c.args.file.now (λ i. omega (arith, c.type_inv.file i)) c.survey-found.result c.survey-found.ensures c.in-Ok.rest c.in-Ok.is c.unwrap-head.result c.unwrap-head.ensures in
     omega (arith, end-inside w, short w)
 
 pub loop-init : goal.loop-init
 loop-init c =
-    let w = file_read c.args.file.now (λ i. omega (arith, c.type_inv.file i)) c.in-Ok.found c.in-Ok.ensures in
+    let w = file_read c.args.file.now (λ i. omega (arith, c.type_inv.file i)) c.survey-found.result c.survey-found.ensures c.in-Ok.rest c.in-Ok.is c.unwrap-head.result c.unwrap-head.ensures in
     none-counted (begins w)
 
 pub slice_bounds-read_checked-end : goal.slice_bounds-read_checked-end
 slice_bounds-read_checked-end c =
-    let w = file_read c.args.file.now (λ i. omega (arith, c.type_inv.file i)) c.in-Ok.found c.in-Ok.ensures in
+    let w = file_read c.args.file.now (λ i. omega (arith, c.type_inv.file i)) c.survey-found.result c.survey-found.ensures c.in-Ok.rest c.in-Ok.is c.unwrap-head.result c.unwrap-head.ensures in
     sym (length-take-le _ c.args.file.now (end-inside w))
 
 pub unwrap-step-requires : goal.unwrap-step-requires
@@ -38,20 +41,20 @@ loop-preserved c = next-counted c.loop.invariant c.loop-test.true c.read_checked
 
 pub overflow_sub-result : goal.overflow_sub-result
 overflow_sub-result c =
-    let w = file_read c.args.file.now (λ i. omega (arith, c.type_inv.file i)) c.in-Ok.found c.in-Ok.ensures in
-    payloads-within c.in-Ok.found w _ (all-counted c.loop.invariant (omega arith) w.content w.read)
+    let w = file_read c.args.file.now (λ i. omega (arith, c.type_inv.file i)) c.survey-found.result c.survey-found.ensures c.in-Ok.rest c.in-Ok.is c.unwrap-head.result c.unwrap-head.ensures in
+    payloads-within w _ (all-counted c.loop.invariant (omega arith) w.content w.read)
 
 pub overflow_sub-result-2 : goal.overflow_sub-result-2
 overflow_sub-result-2 c =
-    let w = file_read c.args.file.now (λ i. omega (arith, c.type_inv.file i)) c.in-Ok.found c.in-Ok.ensures in
-    block-before c.in-Ok.found w _ (all-counted c.loop.invariant (omega arith) w.content w.read)
+    let w = file_read c.args.file.now (λ i. omega (arith, c.type_inv.file i)) c.survey-found.result c.survey-found.ensures c.in-Ok.rest c.in-Ok.is c.unwrap-head.result c.unwrap-head.ensures in
+    block-before w _ (all-counted c.loop.invariant (omega arith) w.content w.read)
 
 pub overflow_sub-result-3 : goal.overflow_sub-result-3
 overflow_sub-result-3 c =
-    let w = file_read c.args.file.now (λ i. omega (arith, c.type_inv.file i)) c.in-Ok.found c.in-Ok.ensures in
+    let w = file_read c.args.file.now (λ i. omega (arith, c.type_inv.file i)) c.survey-found.result c.survey-found.ensures c.in-Ok.rest c.in-Ok.is c.unwrap-head.result c.unwrap-head.ensures in
     data-inside w
 
 pub returns : goal.returns
 returns c =
-    let w = file_read c.args.file.now (λ i. omega (arith, c.type_inv.file i)) c.in-Ok.found c.in-Ok.ensures in
-    partition-is c.in-Ok.found w _ (all-counted c.loop.invariant (omega arith) w.content w.read)
+    let w = file_read c.args.file.now (λ i. omega (arith, c.type_inv.file i)) c.survey-found.result c.survey-found.ensures c.in-Ok.rest c.in-Ok.is c.unwrap-head.result c.unwrap-head.ensures in
+    partition-is w _ (all-counted c.loop.invariant (omega arith) w.content w.read)

@@ -5,8 +5,8 @@ use Rattle.bpg_codec.proofs.Select.{select-true, select-false}
 use Rattle.bpg_codec.proofs.Shifts.{one_shifted}
 use Rattle.bpg_reader.proofs.answer.coded_size.Goals as goal
 
-pub returns-then-log2_size-gt6 : goal.returns-then-log2_size-gt6
-returns-then-log2_size-gt6 c = sym (select-true _ _ (lt-ltb 6 c.args.log2_size (omega arith)))
+pub returns-then-log2_size-gt-LARGEST_LOG2_SIZE : goal.returns-then-log2_size-gt-LARGEST_LOG2_SIZE
+returns-then-log2_size-gt-LARGEST_LOG2_SIZE c = sym (select-true _ _ (lt-ltb 6 c.args.log2_size (omega arith)))
 
 pub returns : goal.returns
 returns c =

@@ -6,7 +6,7 @@ use Rattle.bpg_codec.proofs.Tokens.{all-bytes}
 use Rattle.bpg_format.specs.declared.answer.Reading.{Reading}
 use Rattle.bpg_format.specs.Records.{entries_at, pad_entries, with_entries}
 use Rattle.bpg_read_survey.specs.Bodies.{asked}
-use Rattle.bpg_read_survey.proofs.FileRead.{survey-refused, survey-read, short, data-inside, min-cb-small}
+use Rattle.bpg_read_survey.proofs.FileRead.{survey-refused, survey-read, head_there, short, data-inside, min-cb-small}
 use Rattle.bpg_read_survey.proofs.Walking.{begins, end-inside, entry_reads}
 use Rattle.bpg_reader.proofs.GivenLaws.{answered, refused}
 use Rattle.bpg_reader.proofs.AssembledLaws.{assembled-file}
@@ -16,33 +16,36 @@ use Rattle.bpg_reader.proofs.file.read_or_body.Goals as goal
 pub returns-in-Err : goal.returns-in-Err
 returns-in-Err c =
     let given = option_copied c.args.given in
-    c.refused.ensures ∙ refused given c.args.file.now _ _ (survey-refused (asked given) c.args.file.now _ _ c.in-Err.ensures)
+    c.refused.ensures ∙ refused given c.args.file.now _ _ (survey-refused (asked given) c.args.file.now c.survey-found.result c.survey-found.ensures c.in-Err.refusal c.in-Err.is)
+
+pub unwrap-head-requires : goal.unwrap-head-requires
+unwrap-head-requires c = head_there (asked (option_copied c.args.given)) c.args.file.now c.survey-found.result c.survey-found.ensures c.in-Ok.rest c.in-Ok.is
 
 pub assemble-reading-requires-clause-len_le_max_file : goal.assemble-reading-requires-clause-len_le_max_file
 assemble-reading-requires-clause-len_le_max_file c =
     let bytes = all-bytes c.args.file.now (λ i. omega (arith, c.type_inv.file i)) in
-    short (survey-read (asked (option_copied c.args.given)) c.args.file.now bytes c.in-Ok.found c.in-Ok.ensures).0
+    short (survey-read (asked (option_copied c.args.given)) c.args.file.now c.survey-found.result c.survey-found.ensures c.in-Ok.rest c.in-Ok.is bytes c.unwrap-head.result c.unwrap-head.ensures).0
 
 pub assemble-reading-requires-clause-next_le_len : goal.assemble-reading-requires-clause-next_le_len
 assemble-reading-requires-clause-next_le_len c =
     let bytes = all-bytes c.args.file.now (λ i. omega (arith, c.type_inv.file i)) in
-    data-inside (survey-read (asked (option_copied c.args.given)) c.args.file.now bytes c.in-Ok.found c.in-Ok.ensures).0
+    data-inside (survey-read (asked (option_copied c.args.given)) c.args.file.now c.survey-found.result c.survey-found.ensures c.in-Ok.rest c.in-Ok.is bytes c.unwrap-head.result c.unwrap-head.ensures).0
 
 pub assemble-reading-requires-clause-log2_min_luma_coding_block_size_minus3_bound : goal.assemble-reading-requires-clause-log2_min_luma_coding_block_size_minus3_bound
 assemble-reading-requires-clause-log2_min_luma_coding_block_size_minus3_bound c =
     let bytes = all-bytes c.args.file.now (λ i. omega (arith, c.type_inv.file i)) in
-    min-cb-small (survey-read (asked (option_copied c.args.given)) c.args.file.now bytes c.in-Ok.found c.in-Ok.ensures).0
+    min-cb-small (survey-read (asked (option_copied c.args.given)) c.args.file.now c.survey-found.result c.survey-found.ensures c.in-Ok.rest c.in-Ok.is bytes c.unwrap-head.result c.unwrap-head.ensures).0
 
 pub overflow_add-end : goal.overflow_add-end
 overflow_add-end c =
     let bytes = all-bytes c.args.file.now (λ i. omega (arith, c.type_inv.file i)) in
-    let w = (survey-read (asked (option_copied c.args.given)) c.args.file.now bytes c.in-Ok.found c.in-Ok.ensures).0 in
+    let w = (survey-read (asked (option_copied c.args.given)) c.args.file.now c.survey-found.result c.survey-found.ensures c.in-Ok.rest c.in-Ok.is bytes c.unwrap-head.result c.unwrap-head.ensures).0 in
     record { fits = omega (arith, end-inside w, short w) }
 
 pub loop-k-init : goal.loop-k-init
 loop-k-init c =
     let bytes = all-bytes c.args.file.now (λ i. omega (arith, c.type_inv.file i)) in
-    let w = (survey-read (asked (option_copied c.args.given)) c.args.file.now bytes c.in-Ok.found c.in-Ok.ensures).0 in
+    let w = (survey-read (asked (option_copied c.args.given)) c.args.file.now c.survey-found.result c.survey-found.ensures c.in-Ok.rest c.in-Ok.is bytes c.unwrap-head.result c.unwrap-head.ensures).0 in
     record {
       filling = no-entries _ (ap (λ (r : Reading). r.«record».entries) c.assemble-reading.ensures) (begins w);
       kept = refl;
@@ -51,7 +54,7 @@ loop-k-init c =
 pub slice_bounds-read_checked-end : goal.slice_bounds-read_checked-end
 slice_bounds-read_checked-end c =
     let bytes = all-bytes c.args.file.now (λ i. omega (arith, c.type_inv.file i)) in
-    let w = (survey-read (asked (option_copied c.args.given)) c.args.file.now bytes c.in-Ok.found c.in-Ok.ensures).0 in
+    let w = (survey-read (asked (option_copied c.args.given)) c.args.file.now c.survey-found.result c.survey-found.ensures c.in-Ok.rest c.in-Ok.is bytes c.unwrap-head.result c.unwrap-head.ensures).0 in
     sym (length-take-le _ c.args.file.now (end-inside w))
 
 pub unwrap-step-requires : goal.unwrap-step-requires
@@ -70,8 +73,8 @@ pub returns : goal.returns
 returns c =
     let l = c.loop-k in
     let bytes = all-bytes c.args.file.now (λ i. omega (arith, c.type_inv.file i)) in
-    let s = survey-read (asked (option_copied c.args.given)) c.args.file.now bytes c.in-Ok.found c.in-Ok.ensures in
-    let es = pad_entries (entries_at c.in-Ok.found.head.end.0 s.0.content.extensions) in
+    let s = survey-read (asked (option_copied c.args.given)) c.args.file.now c.survey-found.result c.survey-found.ensures c.in-Ok.rest c.in-Ok.is bytes c.unwrap-head.result c.unwrap-head.ensures in
+    let es = pad_entries (entries_at c.unwrap-head.result.end.0 s.0.content.extensions) in
     l.invariant.kept
     ∙ ap₂ replaced c.assemble-reading.ensures
     (full l.invariant.filling c.loop-k-test.false s.0.content s.0.read ∙ ap (λ (r : Reading). with_entries r.«record» es) c.assemble-reading.ensures)
