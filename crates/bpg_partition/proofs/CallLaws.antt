@@ -9,6 +9,7 @@ use Rattle.std.specs.Prelude.{Ok, Err, IsOk}
 use Rattle.bpg_refusal.specs.declared.Refusal.{Refusal}
 use Rattle.bpg_refusal.specs.Numbers.{reason_number}
 use Rattle.bpg_read_head.specs.declared.head.Head.{Head as PlacedHead}
+use Rattle.bpg_codec.specs.Outcome.{error}
 use Rattle.bpg_codec.proofs.Tokens.{all-bytes}
 use Rattle.bpg_format.specs.Content.{Content}
 use Rattle.bpg_format.specs.Read.{Head}
@@ -18,7 +19,7 @@ use Rattle.bpg_read_survey.proofs.GivenLaws.{none-given}
 use Rattle.bpg_read_survey.specs.declared.rest.RestSurvey.{RestSurvey}
 use Rattle.bpg_read_survey.specs.declared.given.Surveyed.{Surveyed}
 use Rattle.bpg_read_survey.specs.Surveys.{survey_parts, file_survey}
-use Rattle.bpg_read_survey.proofs.FileRead.{FileRead, survey-refused, survey-read, head_there, starts, file-length}
+use Rattle.bpg_read_survey.proofs.FileRead.{FileRead, survey-refused, err-said, survey-read, head_there, starts, file-length}
 use Rattle.bpg_partition.specs.Partitions.{head_count, entry_head_count, payload_count, data_count, refused_partition, counts, partition_of, partition_answer}
 use Rattle.bpg_partition.proofs.CountLaws.{head-start, block-count, data-start}
 
@@ -32,10 +33,14 @@ file_read file h s e x is p head_is = (survey-read (λ _. true) file s e x is (a
 pub head-read : (file : List ℕ) (s : Surveyed) → survey_parts s ≡ file_survey file (read_given (λ _. true) file) → (x : RestSurvey) → s.rest ≡ Ok x → IsOk s.head
 head-read file s e x is = head_there (λ _. true) file s e x is
 
-pub partition-refused : (file : List ℕ) (s : Surveyed) → survey_parts s ≡ file_survey file (read_given (λ _. true) file) → (r : Refusal) → s.rest ≡ Err r
-    → refused_partition (reason_number r.reason) r.offset.0 ≡ partition_answer file
+-- it was refused
+pub partition-refused : (file : List ℕ) (s o : ℕ) → error s o ≡ (file_survey file (read_given (λ _. true) file)).1 → refused_partition s o ≡ partition_answer file
 unfolding partition_answer
-partition-refused file s e r is = ap partition_of (sym (survey-refused (λ _. true) file s e r is) ∙ none-given file)
+partition-refused file s o e = ap partition_of (sym (survey-refused (λ _. true) file s o e) ∙ none-given file)
+
+pub partition-err : (file : List ℕ) (s : Surveyed) → survey_parts s ≡ file_survey file (read_given (λ _. true) file) → (r : Refusal) → s.rest ≡ Err r
+    → refused_partition (reason_number r.reason) r.offset.0 ≡ partition_answer file
+partition-err file s e r is = partition-refused file _ _ (err-said (λ _. true) file s e r is)
 
 counts-cong : {h h1 e e1 p p1 x x1 d d1 : ℕ} → h ≡ h1 → e ≡ e1 → p ≡ p1 → x ≡ x1 → d ≡ d1 → counts h e p x d ≡ counts h1 e1 p1 x1 d1
 counts-cong h e p x d = rw (h, e, p, x, d)

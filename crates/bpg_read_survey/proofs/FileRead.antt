@@ -62,6 +62,10 @@ module _ (is_own : CodedHead → Bool) (file : List ℕ) where
   abbrev read : Outcome Content
   read = read_given is_own file
 
+  -- a refusal of what follows the head is reading's, with the same two numbers, whichever they are: no `Refusal` is needed
+  pub survey-refused : (s o : ℕ) → error s o ≡ (file_survey file read).1 → read ≡ error s o
+  survey-refused s o e = unanswered read (rest_of (length file)) s o e
+
   -- of a survey of the file, by what follows the head
   module _ (s : Surveyed) (e : survey_parts s ≡ file_survey file read) where
     head_said : outcome head_fields s.head ≡ read_head file
@@ -70,8 +74,11 @@ module _ (is_own : CodedHead → Bool) (file : List ℕ) where
     rest-said : outcome (λ x. x) s.rest ≡ survey_of (length file) read
     rest-said = ap (λ (x : Outcome Head × Outcome RestSurvey). x.1) e
 
-    pub survey-refused : (r : Refusal) → s.rest ≡ Err r → read ≡ error (reason_number r.reason) r.offset.0
-    survey-refused r is = unanswered read (rest_of (length file)) _ _ (ap (outcome (λ x. x)) (sym is) ∙ rest-said)
+    pub err-said : (r : Refusal) → s.rest ≡ Err r → error (reason_number r.reason) r.offset.0 ≡ (file_survey file read).1
+    err-said r is = ap (outcome (λ x. x)) (sym is) ∙ rest-said
+
+    pub survey-err : (r : Refusal) → s.rest ≡ Err r → read ≡ error (reason_number r.reason) r.offset.0
+    survey-err r is = survey-refused _ _ (err-said r is)
 
     module _ (x : RestSurvey) (is : s.rest ≡ Ok x) where
       pub by-content : {P : Type 0} → ((c : Content) → read ≡ ok c → x ≡ rest_of (length file) c → P) → P

@@ -1,5 +1,5 @@
 -- Reading on from a head that was given, by the file's length, by what its head is read as, and by whether that is the one given.
-use mathlib.Core.Path.{◌≡◌, refl, sym, ap, ◌∙◌, subst}
+use mathlib.Core.Path.{◌≡◌, refl, sym, ap, ap₂, ◌∙◌, subst}
 use mathlib.Core.Bool.{Bool, true, false}
 use mathlib.Core.Logic.{◌≢◌}
 use mathlib.Core.List.{List}
@@ -25,7 +25,7 @@ use Rattle.bpg_head_rules.specs.Calls.{coded_head, fields_of}
 use Rattle.bpg_read_survey.specs.declared.rest.RestSurvey.{RestSurvey}
 use Rattle.bpg_read_survey.specs.Given.{read_given, BodyStatus}
 use Rattle.bpg_read_survey.specs.Bodies.{HeadRead}
-use Rattle.bpg_read_survey.specs.Surveys.{survey_of}
+use Rattle.bpg_read_survey.specs.Surveys.{survey_of, file_survey}
 use Rattle.bpg_read_survey.proofs.ContentSteps.{content-error, content-body}
 
 -- where no head is given, it is reading
@@ -116,3 +116,12 @@ module _ (is_own : CodedHead → Bool) (file : List ℕ) where
 
       pub rest-is : is_own (fields_of head) ≡ true → survey_of (length file) (read_body (head_fields head) (drop head.end.0 file)) ≡ rest
       rest-is t = ap (survey_of (length file)) (sym (given-same is_own file short (head_fields head) (sym e) t))
+
+      -- so it is refused as the body is, and of an accepted file it has the body's parts, the head beside them
+      module _ (t : is_own (fields_of head) ≡ true) where
+        pub rest-refused : (s o : ℕ) → error s o ≡ survey_of (length file) (read_body (head_fields head) (drop head.end.0 file)) → error s o ≡ rest
+        rest-refused s o r = r ∙ rest-is t
+
+        pub rest-read : (x : RestSurvey) → ok x ≡ survey_of (length file) (read_body (head_fields head) (drop head.end.0 file))
+            → (ok (head_fields head), ok x) ≡ file_survey file (read_given is_own file)
+        rest-read x r = ap₂ (λ (h : Outcome Head) (s : Outcome RestSurvey). (h, s)) e (r ∙ rest-is t)

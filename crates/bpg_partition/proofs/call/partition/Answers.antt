@@ -4,11 +4,11 @@ use lib.Seq.{length-take-le}
 use Rattle.bpg_read_survey.proofs.FileRead.{short, data-inside}
 use Rattle.bpg_read_survey.proofs.Walking.{begins, end-inside, entry_reads}
 use Rattle.bpg_partition.proofs.PayloadLaws.{none-counted, next-counted, all-counted}
-use Rattle.bpg_partition.proofs.CallLaws.{file_read, head-read, partition-refused, payloads-within, block-before, partition-is}
+use Rattle.bpg_partition.proofs.CallLaws.{file_read, head-read, partition-err, payloads-within, block-before, partition-is}
 use Rattle.bpg_partition.proofs.call.partition.Goals as goal
 
 pub returns-in-Err : goal.returns-in-Err
-returns-in-Err c = rw c.refused.ensures (partition-refused c.args.file.now c.survey-found.result c.survey-found.ensures c.in-Err.refusal c.in-Err.is)
+returns-in-Err c = rw c.refused.ensures (partition-err c.args.file.now c.survey-found.result c.survey-found.ensures c.in-Err.refusal c.in-Err.is)
 
 pub unwrap-head-requires : goal.unwrap-head-requires
 unwrap-head-requires c = head-read c.args.file.now c.survey-found.result c.survey-found.ensures c.in-Ok.rest c.in-Ok.is

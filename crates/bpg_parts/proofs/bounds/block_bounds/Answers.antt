@@ -5,11 +5,11 @@ use Rattle.bpg_codec.proofs.Tokens.{all-bytes}
 use Rattle.bpg_read_survey.specs.Bodies.{asked}
 use Rattle.bpg_read_survey.proofs.FileRead.{survey-read, head_there, short}
 use Rattle.bpg_read_survey.proofs.Walking.{end-inside}
-use Rattle.bpg_parts.proofs.BoundsLaws.{refused-bounds, accepted-bounds}
+use Rattle.bpg_parts.proofs.BoundsLaws.{bounds-err, accepted-bounds}
 use Rattle.bpg_parts.proofs.bounds.block_bounds.Goals as goal
 
 pub returns-in_default : goal.returns-in_default
-returns-in_default c = refused-bounds c.args.file.now c.survey-found.result c.survey-found.ensures c.in_default.field-0 c.in_default.is
+returns-in_default c = bounds-err c.args.file.now c.survey-found.result c.survey-found.ensures c.in_default.field-0 c.in_default.is
 
 pub unwrap-head-requires : goal.unwrap-head-requires
 unwrap-head-requires c = head_there (asked None) c.args.file.now c.survey-found.result c.survey-found.ensures c.in-Ok.field-0 c.in-Ok.is

@@ -9,7 +9,7 @@ use Rattle.bpg_format.specs.Records.{entries_at, read_file}
 use Rattle.bpg_codec.specs.Buffer.{written}
 use Rattle.bpg_read_survey.specs.declared.given.FileSurvey.{FileSurvey}
 use Rattle.bpg_read_survey.specs.Bodies.{asked}
-use Rattle.bpg_read_survey.proofs.FileRead.{FileRead, survey-refused, survey-read, head_there, short, data-inside, min-cb-small}
+use Rattle.bpg_read_survey.proofs.FileRead.{FileRead, survey-err, survey-read, head_there, short, data-inside, min-cb-small}
 use Rattle.bpg_read_survey.proofs.Walking.{begins, end-inside, entry_reads, ends-inside}
 use Rattle.bpg_reader.proofs.GivenLaws.{answered}
 use Rattle.bpg_export_list.specs.Numbers.{fixed_length, list_length, entries_numbers}
@@ -22,12 +22,12 @@ use Rattle.bpg_read_list.proofs.file.read.Goals as goal
 pub returns-in-Err-clause-value : goal.returns-in-Err-clause-value
 returns-in-Err-clause-value c =
     let given = option_copied c.args.given in
-    c.refused.ensures ∙ (listed-refused c.args.numbers.now given c.args.file.now _ _ (survey-refused (asked given) c.args.file.now c.survey-found.result c.survey-found.ensures c.in-Err.refusal c.in-Err.is)).0
+    c.refused.ensures ∙ (listed-refused c.args.numbers.now given c.args.file.now _ _ (survey-err (asked given) c.args.file.now c.survey-found.result c.survey-found.ensures c.in-Err.refusal c.in-Err.is)).0
 
 pub returns-in-Err-clause-numbers_after : goal.returns-in-Err-clause-numbers_after
 returns-in-Err-clause-numbers_after c =
     let given = option_copied c.args.given in
-    (listed-refused c.args.numbers.now given c.args.file.now _ _ (survey-refused (asked given) c.args.file.now c.survey-found.result c.survey-found.ensures c.in-Err.refusal c.in-Err.is)).1
+    (listed-refused c.args.numbers.now given c.args.file.now _ _ (survey-err (asked given) c.args.file.now c.survey-found.result c.survey-found.ensures c.in-Err.refusal c.in-Err.is)).1
 
 -- the list is too short for an accepted file
 short-list : (numbers file : List ℕ) (s : FileSurvey) → FileRead file s.head s.rest → (r : Reading) → read_file file ≡ r

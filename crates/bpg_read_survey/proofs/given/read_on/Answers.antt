@@ -9,7 +9,7 @@ use Rattle.bpg_read_head.specs.Heads.{head_fields}
 use Rattle.bpg_read_headers.specs.BothHeaders.{headers_in}
 use Rattle.bpg_read_survey.specs.Bodies.{headers_start}
 use Rattle.bpg_read_survey.proofs.BodyLaws.{block_refused, block_read, no-control, length-misses, at-headers, headers-refused, headers-read, to_end, data-stops, body_read}
-use Rattle.bpg_read_survey.proofs.GivenLaws.{too_long, head-refused, head-known, other-head, rest-is}
+use Rattle.bpg_read_survey.proofs.GivenLaws.{too_long, head-refused, head-known, other-head, rest-is, rest-refused}
 use Rattle.bpg_read_survey.proofs.given.read_on.Goals as goal
 
 pub returns-then-file-gt-LONGEST : goal.returns-then-file-gt-LONGEST
@@ -37,18 +37,18 @@ returns-in_err-block c =
     let bytes = all-bytes c.args.file.now (λ i. omega (arith, c.type_inv.file i)) in
     let e = ap (outcome head_fields) (sym c.in_ok-head.was) ∙ c.requires in
     let known = head-known _ bytes (omega arith) c.in_ok-head.head e in
-    let own = rest-is _ _ (omega arith) c.in_ok-head.head e (sym c.is_own.ensures ∙ c.if-not-is_own.false) in
+    let own = rest-refused _ _ (omega arith) c.in_ok-head.head e (sym c.is_own.ensures ∙ c.if-not-is_own.false) _ _ in
     let p = err_from_is_err_and c.from_residual-in_err-block.result c.from_residual-in_err-block.ensures.1 in
-    rw (p.1, p.2) (block_refused known _ _ c.in_err-block.ensures ∙ own)
+    rw (p.1, p.2) (own (block_refused known _ _ c.in_err-block.ensures))
 
 pub returns-then-not-control_fits : goal.returns-then-not-control_fits
 returns-then-not-control_fits c =
     let bytes = all-bytes c.args.file.now (λ i. omega (arith, c.type_inv.file i)) in
     let e = ap (outcome head_fields) (sym c.in_ok-head.was) ∙ c.requires in
     let known = head-known _ bytes (omega arith) c.in_ok-head.head e in
-    let own = rest-is _ _ (omega arith) c.in_ok-head.head e (sym c.is_own.ensures ∙ c.if-not-is_own.false) in
+    let own = rest-refused _ _ (omega arith) c.in_ok-head.head e (sym c.is_own.ensures ∙ c.if-not-is_own.false) _ _ in
     let b = block_read known c.in_ok-block.block c.in_ok-block.ensures in
-    rw c.at-then-not-control_fits.ensures (no-control b _ c.is_some.ensures (sym c.control_fits.ensures ∙ c.if-not-control_fits.true) ∙ own)
+    rw c.at-then-not-control_fits.ensures (own (no-control b _ c.is_some.ensures (sym c.control_fits.ensures ∙ c.if-not-control_fits.true)))
 
 pub overflow_add-start : goal.overflow_add-start
 overflow_add-start c =
@@ -70,10 +70,10 @@ returns-then-not-reaches_end c =
     let bytes = all-bytes c.args.file.now (λ i. omega (arith, c.type_inv.file i)) in
     let e = ap (outcome head_fields) (sym c.in_ok-head.was) ∙ c.requires in
     let known = head-known _ bytes (omega arith) c.in_ok-head.head e in
-    let own = rest-is _ _ (omega arith) c.in_ok-head.head e (sym c.is_own.ensures ∙ c.if-not-is_own.false) in
+    let own = rest-refused _ _ (omega arith) c.in_ok-head.head e (sym c.is_own.ensures ∙ c.if-not-is_own.false) _ _ in
     let b = block_read known c.in_ok-block.block c.in_ok-block.ensures in
     rw c.at-then-not-reaches_end.ensures
-    (length-misses b _ c.is_some.ensures (sym c.control_fits.ensures ∙ c.if-not-control_fits.false) (sym c.reaches_end.ensures ∙ c.if-not-reaches_end.true) ∙ own)
+    (own (length-misses b _ c.is_some.ensures (sym c.control_fits.ensures ∙ c.if-not-control_fits.false) (sym c.reaches_end.ensures ∙ c.if-not-reaches_end.true)))
 
 pub overflow_add-depth : goal.overflow_add-depth
 overflow_add-depth c =
@@ -87,13 +87,13 @@ returns-in_err-headers c =
     let bytes = all-bytes c.args.file.now (λ i. omega (arith, c.type_inv.file i)) in
     let e = ap (outcome head_fields) (sym c.in_ok-head.was) ∙ c.requires in
     let known = head-known _ bytes (omega arith) c.in_ok-head.head e in
-    let own = rest-is _ _ (omega arith) c.in_ok-head.head e (sym c.is_own.ensures ∙ c.if-not-is_own.false) in
+    let own = rest-refused _ _ (omega arith) c.in_ok-head.head e (sym c.is_own.ensures ∙ c.if-not-is_own.false) _ _ in
     let b = block_read known c.in_ok-block.block c.in_ok-block.ensures in
     let h = head_fields c.in_ok-head.head in
     let k = at-headers b _ c.is_some.ensures (sym c.control_fits.ensures ∙ c.if-not-control_fits.false) (sym c.reaches_end.ensures ∙ c.if-not-reaches_end.false) in
     let is = c.in_err-headers.ensures ∙ ap (λ (t : Bool). headers_in c.args.file.now t (bit_depth h.flags) (headers_start h)) c.has_alpha-alpha.ensures in
     let p = err_from_is_err_and c.from_residual-in_err-headers.result c.from_residual-in_err-headers.ensures.1 in
-    rw (p.1, p.2) (headers-refused k _ _ is ∙ own)
+    rw (p.1, p.2) (own (headers-refused k _ _ is))
 
 pub slice_bounds-data_allowed-count : goal.slice_bounds-data_allowed-count
 slice_bounds-data_allowed-count c =
@@ -122,12 +122,12 @@ returns-then-not-data_allowed c =
     let bytes = all-bytes c.args.file.now (λ i. omega (arith, c.type_inv.file i)) in
     let e = ap (outcome head_fields) (sym c.in_ok-head.was) ∙ c.requires in
     let known = head-known _ bytes (omega arith) c.in_ok-head.head e in
-    let own = rest-is _ _ (omega arith) c.in_ok-head.head e (sym c.is_own.ensures ∙ c.if-not-is_own.false) in
+    let own = rest-refused _ _ (omega arith) c.in_ok-head.head e (sym c.is_own.ensures ∙ c.if-not-is_own.false) _ _ in
     let b = block_read known c.in_ok-block.block c.in_ok-block.ensures in
     let h = head_fields c.in_ok-head.head in
     let k = at-headers b _ c.is_some.ensures (sym c.control_fits.ensures ∙ c.if-not-control_fits.false) (sym c.reaches_end.ensures ∙ c.if-not-reaches_end.false) in
     let is = c.in_ok-headers.ensures ∙ ap (λ (t : Bool). headers_in c.args.file.now t (bit_depth h.flags) (headers_start h)) c.has_alpha-alpha.ensures in
-    rw c.at-then-not-data_allowed.ensures (data-stops (headers-read k c.in_ok-headers.headers is) (sym (c.data_allowed.ensures ∙ ap data_allowed (to_end c.args.file.now c.in_ok-headers.headers.next.0)) ∙ c.if-not-data_allowed.true) ∙ own)
+    rw c.at-then-not-data_allowed.ensures (own (data-stops (headers-read k c.in_ok-headers.headers is) (sym (c.data_allowed.ensures ∙ ap data_allowed (to_end c.args.file.now c.in_ok-headers.headers.next.0)) ∙ c.if-not-data_allowed.true)))
 
 pub returns : goal.returns
 returns c =

@@ -6,7 +6,7 @@ use Rattle.bpg_codec.proofs.Tokens.{all-bytes}
 use Rattle.bpg_format.specs.declared.answer.Reading.{Reading}
 use Rattle.bpg_format.specs.Records.{entries_at, pad_entries, with_entries}
 use Rattle.bpg_read_survey.specs.Bodies.{asked}
-use Rattle.bpg_read_survey.proofs.FileRead.{survey-refused, survey-read, head_there, short, data-inside, min-cb-small}
+use Rattle.bpg_read_survey.proofs.FileRead.{survey-err, survey-read, head_there, short, data-inside, min-cb-small}
 use Rattle.bpg_read_survey.proofs.Walking.{begins, end-inside, entry_reads}
 use Rattle.bpg_reader.proofs.GivenLaws.{answered, refused}
 use Rattle.bpg_reader.proofs.AssembledLaws.{assembled-file}
@@ -16,7 +16,7 @@ use Rattle.bpg_reader.proofs.file.read_or_body.Goals as goal
 pub returns-in-Err : goal.returns-in-Err
 returns-in-Err c =
     let given = option_copied c.args.given in
-    c.refused.ensures ∙ refused given c.args.file.now _ _ (survey-refused (asked given) c.args.file.now c.survey-found.result c.survey-found.ensures c.in-Err.refusal c.in-Err.is)
+    c.refused.ensures ∙ refused given c.args.file.now _ _ (survey-err (asked given) c.args.file.now c.survey-found.result c.survey-found.ensures c.in-Err.refusal c.in-Err.is)
 
 pub unwrap-head-requires : goal.unwrap-head-requires
 unwrap-head-requires c = head_there (asked (option_copied c.args.given)) c.args.file.now c.survey-found.result c.survey-found.ensures c.in-Ok.rest c.in-Ok.is
